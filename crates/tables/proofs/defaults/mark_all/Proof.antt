@@ -1,0 +1,58 @@
+-- From the last row on each literal is marked as it is; the parts of a literal come later, and are marked already. Assumes nothing.
+use Prim.Native.Nat.{_≤_}
+use Rattle.tables.specs.Layout.{literalWidth}
+use Rattle.tables.specs.Rows.{rowsOf}
+use Rattle.tables.specs.Defaults.{Marked}
+use Rattle.tables.proofs.Closed.{mark-none, mark-turn, mark-end}
+use borrow.Author.Needs.{needs}
+use native.Mathlib.Omega.{arith}
+use Rattle.tables.proofs.defaults.mark_all.Statement.{statement}
+use Rattle.tables.proofs.defaults.mark_all.Tie as tie
+use Rattle.tables.proofs.defaults.mark_all.Reads as reads
+use Rattle.tables.proofs.defaults.mark_all.Lts as lts
+use Rattle.tables.proofs.defaults.mark_row.Reads as mark-row-reads
+use Rattle.tables.proofs.rows.row_count.Reads as row-count-reads
+abbrev Inv-loop : tie.InvT-loop
+Inv-loop pool names literals marks₀ row₀ marks row = (row ≤ rowsOf literals literalWidth) × Marked literals marks row
+
+abbrev μ-loop : tie.MeasureT-loop
+μ-loop pool names literals marks₀ row₀ marks row = row
+
+row-count-requires : tie.Need-row-count-requires Inv-loop μ-loop
+row-count-requires c κs = search needs
+
+loop-holds : tie.Need-loop-holds Inv-loop μ-loop
+loop-holds c = (search needs, rw (c .row-count .ensures) (mark-none (c .before .before .before .before .before .args .pool .now) (c .before .before .before .before .before .args .names .now) (c .before .before .before .before .before .args .literals .now) (c .before .before .before .before .before .pre .1 .1) _ (c .before .before .before .before .before .pre .0)))
+
+sub-row : tie.Need-sub-row Inv-loop μ-loop
+sub-row c = search needs
+
+mark-row-requires : tie.Need-mark-row-requires Inv-loop μ-loop
+mark-row-requires c κs = search needs
+
+loop-less : tie.Need-loop-less Inv-loop μ-loop
+loop-less c = search needs
+
+loop-again : tie.Need-loop-again Inv-loop μ-loop
+loop-again c = (search needs, mark-turn (c .before .before .before .before .before .before .before .before .before .before .before .args .pool .now) (c .before .before .before .before .before .before .before .before .before .before .before .args .names .now) (c .before .before .before .before .before .before .before .before .before .before .before .args .literals .now) (c .before .before .before .before .before .before .before .before .before .before .before .pre .1 .1) _ _ (c .before .before .before .before .before .loop .row) (omega arith) (c .before .before .before .before .before .loop .inv .0) (c .before .before .before .before .before .before .before .before .before .before .before .pre .1 .0) (c .before .before .before .before .before .loop .inv .1) (c .before .before .mark-row .ensures))
+
+same-length : tie.Need-same-length Inv-loop μ-loop
+same-length c = search needs
+
+returns : tie.Need-returns Inv-loop μ-loop
+returns c = mark-end _ _ (c .before .loop .row) (c .loop-test .left) (c .before .loop .inv .1)
+
+pub mark-all-spec : {M : Type 1} → statement M
+mark-all-spec =
+    tie.close
+    (tie.spec
+    Inv-loop
+    μ-loop
+    row-count-requires
+    loop-holds
+    sub-row
+    mark-row-requires
+    loop-less
+    loop-again
+    same-length
+    returns)

@@ -1,0 +1,59 @@
+-- The rule holds at the rows passed; one at which it does not ends the search. Assumes nothing.
+use mathlib.Core.Path.{_≡_}
+use mathlib.Core.Bool.{true}
+use Prim.Native.Nat.{_≤_, _-_, _+_}
+use borrow.Author.Needs.{needs}
+use Rattle.tables.specs.Rows.{all}
+use Rattle.tables.specs.Tables.{tables}
+use Rattle.tables.specs.Rules.{holdsAt, obeyed}
+use Rattle.tables.proofs.Every.{all-none, all-more, all-broken, all-ended}
+use borrow.Author.Needs.{needs}
+use Rattle.tables.proofs.rules.rule_holds.Statement.{statement}
+use Rattle.tables.proofs.rules.rule_holds.Tie as tie
+
+abbrev Inv-loop : tie.InvT-loop
+Inv-loop rule pool names type-refs types members fields arguments sets selections given fragments nodes literals variables answers root rows row₀ row = (row ≤ rows) × (all (holdsAt rule (tables pool names type-refs types members fields arguments sets selections given fragments nodes literals variables answers root)) row ≡ true)
+
+abbrev μ-loop : tie.MeasureT-loop
+μ-loop rule pool names type-refs types members fields arguments sets selections given fragments nodes literals variables answers root rows row₀ row = rows - row
+
+rule-rows-requires : tie.Need-rule-rows-requires Inv-loop μ-loop
+rule-rows-requires c κs = search needs
+
+loop-holds : tie.Need-loop-holds Inv-loop μ-loop
+loop-holds c = (search needs, all-none _)
+
+rule-holds-at-requires : tie.Need-rule-holds-at-requires Inv-loop μ-loop
+rule-holds-at-requires c κs = search needs
+
+returns : tie.Need-returns Inv-loop μ-loop
+unfolding obeyed
+returns c = rw (← (c .before .before .before .before .rule-rows .ensures)) (all-broken _ (c .before .before .before .loop .row) _ (c .before .rule-holds-at .result) (c .before .before .loop-test .taken) (c .before .rule-holds-at .ensures) (c .if1 .taken))
+
+add-row : tie.Need-add-row Inv-loop μ-loop
+add-row c = search needs
+
+loop-less : tie.Need-loop-less Inv-loop μ-loop
+loop-less c = search needs
+
+loop-again : tie.Need-loop-again Inv-loop μ-loop
+loop-again c = (search needs, all-more _ (c .before .before .before .loop .row) (c .before .rule-holds-at .result) (c .before .before .before .loop .inv .1) (c .before .rule-holds-at .ensures) (c .if1 .left))
+
+returns-2 : tie.Need-returns-2 Inv-loop μ-loop
+unfolding obeyed
+returns-2 c = rw (← (c .before .before .rule-rows .ensures)) (all-ended _ (c .before .loop .row) _ (c .before .loop .inv .1) (c .before .loop .inv .0) (c .loop-test .left))
+
+pub rule-holds-spec : {M : Type 1} → statement M
+rule-holds-spec =
+    tie.close
+    (tie.spec
+    Inv-loop
+    μ-loop
+    rule-rows-requires
+    loop-holds
+    rule-holds-at-requires
+    returns
+    add-row
+    loop-less
+    loop-again
+    returns-2)

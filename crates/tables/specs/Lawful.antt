@@ -1,0 +1,19 @@
+-- Lawful tables and lawful buffers: what every public entry asks before anything else.
+use mathlib.Core.Bool.{Bool, _&&_, cond}
+use Prim.Native.Nat.{ℕ}
+use lib.Dec.{leb}
+use Rattle.tables.specs.Tables.{Tables}
+use Rattle.tables.specs.Rules.{rowsLawful}
+use Rattle.tables.specs.Defaults.{defaultsClosed}
+
+-- every rule of "The tables lent" holds
+unfoldable pub lawful : Tables → Bool
+lawful T = rowsLawful T && defaultsClosed (T .fields) (T .arguments) (T .literals)
+
+-- "1: a table or buffer breaks a rule above". A table check is lent no buffer
+unfoldable pub tableCode : Tables → ℕ
+tableCode T = cond (lawful T) 0 1
+
+-- "Text buffer 0 to 65,536 bytes, error buffer 0 to 16,384 words, choices up to 4,096."
+unfoldable pub lawfulBuffers : ℕ → ℕ → ℕ → Bool
+lawfulBuffers text errors choices = leb text 65536 && (leb errors 16384 && leb choices 4096)

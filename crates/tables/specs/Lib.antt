@@ -1,0 +1,13 @@
+pub mod Answers
+pub mod Ascii
+pub mod Defaults
+pub mod Document
+pub mod Json
+pub mod Lawful
+pub mod Layout
+pub mod Names
+pub mod Rows
+pub mod Rules
+pub mod Schema
+pub mod Strings
+pub mod Tables

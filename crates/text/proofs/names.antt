@@ -1,0 +1,2 @@
+-- What the proofs of `names` cite.
+mod Spelled

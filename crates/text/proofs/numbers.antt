@@ -1,0 +1,2 @@
+-- What the proofs of `numbers` cite.
+mod Parts

@@ -1,0 +1,39 @@
+-- `text::numbers::find_digits` meets its contract: a digit, and then all the digits that follow it.
+-- Assumes nothing.
+use Rattle.text.proofs.numbers.Parts.{no-digits1, digits1-there, digits1-absent}
+use borrow.Author.Needs.{needs}
+use Rattle.text.proofs.numbers.find_digits.Statement.{statement}
+use Rattle.text.proofs.numbers.find_digits.Tie as tie
+
+returns : tie.Need-returns
+returns c = search no-digits1
+
+shared-slice-read-is-digit : tie.Need-shared-slice-read-is-digit
+shared-slice-read-is-digit c = search needs
+
+is-digit-requires : tie.Need-is-digit-requires
+is-digit-requires c κs = search needs
+
+add-past-digits : tie.Need-add-past-digits
+add-past-digits c = search needs
+
+past-digits-requires : tie.Need-past-digits-requires
+past-digits-requires c κs = search needs
+
+returns-2 : tie.Need-returns-2
+returns-2 c = search digits1-there
+
+returns-3 : tie.Need-returns-3
+returns-3 c = search digits1-absent
+
+pub find-digits-spec : {M : Type 1} → statement M
+find-digits-spec =
+    tie.close
+    (tie.spec
+    returns
+    shared-slice-read-is-digit
+    is-digit-requires
+    add-past-digits
+    past-digits-requires
+    returns-2
+    returns-3)

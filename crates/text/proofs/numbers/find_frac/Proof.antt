@@ -1,0 +1,35 @@
+-- `text::numbers::find_frac` meets its contract: a decimal point, and then what `find_digits` finds.
+-- Assumes nothing.
+use Rattle.text.proofs.numbers.Parts.{no-frac, frac-there, frac-absent}
+use borrow.Author.Needs.{needs}
+use Rattle.text.proofs.numbers.find_frac.Statement.{statement}
+use Rattle.text.proofs.numbers.find_frac.Tie as tie
+
+returns : tie.Need-returns
+returns c = search no-frac
+
+shared-slice-read-if2 : tie.Need-shared-slice-read-if2
+shared-slice-read-if2 c = search needs
+
+add-find-digits : tie.Need-add-find-digits
+add-find-digits c = search needs
+
+find-digits-requires : tie.Need-find-digits-requires
+find-digits-requires c κs = search needs
+
+returns-2 : tie.Need-returns-2
+returns-2 c = search frac-there
+
+returns-3 : tie.Need-returns-3
+returns-3 c = search frac-absent
+
+pub find-frac-spec : {M : Type 1} → statement M
+find-frac-spec =
+    tie.close
+    (tie.spec
+    returns
+    shared-slice-read-if2
+    add-find-digits
+    find-digits-requires
+    returns-2
+    returns-3)

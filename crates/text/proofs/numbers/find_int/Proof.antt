@@ -1,0 +1,29 @@
+-- `text::numbers::find_int` meets its contract: digits that do not begin with a zero begin with a digit1-9.
+-- Assumes nothing.
+use Rattle.text.proofs.numbers.Parts.{no-int, int-zero, int-digits}
+use borrow.Author.Needs.{needs}
+use Rattle.text.proofs.numbers.find_int.Statement.{statement}
+use Rattle.text.proofs.numbers.find_int.Tie as tie
+
+returns : tie.Need-returns
+returns c = search no-int
+
+shared-slice-read-if2 : tie.Need-shared-slice-read-if2
+shared-slice-read-if2 c = search needs
+
+add-t7 : tie.Need-add-t7
+add-t7 c = search needs
+
+returns-2 : tie.Need-returns-2
+returns-2 c = search int-zero
+
+find-digits-requires : tie.Need-find-digits-requires
+find-digits-requires c κs = search needs
+
+returns-3 : tie.Need-returns-3
+returns-3 c = search int-digits
+
+pub find-int-spec : {M : Type 1} → statement M
+find-int-spec =
+    tie.close
+    (tie.spec returns shared-slice-read-if2 add-t7 returns-2 find-digits-requires returns-3)

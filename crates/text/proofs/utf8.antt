@@ -1,0 +1,4 @@
+-- What the proofs of `utf8` cite.
+mod Octets
+mod Sequences
+mod Decoding

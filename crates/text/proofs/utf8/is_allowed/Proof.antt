@@ -1,0 +1,24 @@
+-- `text::utf8::is_allowed` meets its contract: each way out decides the three tests of allowed.
+-- Assumes nothing.
+use Rattle.text.proofs.utf8.Octets.{overlong, before-surrogates, surrogate, after-surrogates}
+use borrow.Author.Needs.{needs}
+use Rattle.text.proofs.utf8.is_allowed.Statement.{statement}
+use Rattle.text.proofs.utf8.is_allowed.Tie as tie
+
+least-requires : tie.Need-least-requires
+least-requires c κs = search needs
+
+returns : tie.Need-returns
+returns c = search overlong
+
+returns-2 : tie.Need-returns-2
+returns-2 c = search before-surrogates
+
+returns-3 : tie.Need-returns-3
+returns-3 c = search surrogate
+
+returns-4 : tie.Need-returns-4
+returns-4 c = search after-surrogates
+
+pub is-allowed-spec : {M : Type 1} → statement M
+is-allowed-spec = tie.close (tie.spec least-requires returns returns-2 returns-3 returns-4)

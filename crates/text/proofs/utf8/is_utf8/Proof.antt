@@ -1,0 +1,55 @@
+-- `text::utf8::is_utf8` meets its contract. The loop keeps that the text is UTF-8 just if what is left from `at` on is.
+-- Assumes nothing.
+use mathlib.Core.Path.{_≡_, refl}
+use Prim.Native.Nat.{_-_}
+use lib.ListN.{length, drop}
+use Rattle.text.specs.Utf8.{isUtf8}
+use Rattle.text.proofs.utf8.Decoding.{utf8-nearer, utf8-more, utf8-broken, utf8-ended}
+use borrow.Author.Needs.{needs}
+use Rattle.text.proofs.utf8.is_utf8.Statement.{statement}
+use Rattle.text.proofs.utf8.is_utf8.Tie as tie
+
+abbrev Inv-loop : tie.InvT-loop
+Inv-loop s at₀ at = isUtf8 s ≡ isUtf8 (drop at s)
+
+abbrev μ-loop : tie.MeasureT-loop
+μ-loop s at₀ at = length s - at
+
+loop-holds : tie.Need-loop-holds Inv-loop μ-loop
+loop-holds c = refl
+
+decode-requires : tie.Need-decode-requires Inv-loop μ-loop
+decode-requires c κs = search needs
+
+enum-known-next : tie.Need-enum-known-next Inv-loop μ-loop
+enum-known-next c = search needs
+
+loop-less : tie.Need-loop-less Inv-loop μ-loop
+loop-less c = search utf8-nearer
+
+loop-again : tie.Need-loop-again Inv-loop μ-loop
+loop-again c = search utf8-more
+
+enum-told : tie.Need-enum-told Inv-loop μ-loop
+enum-told c = search needs
+
+returns : tie.Need-returns Inv-loop μ-loop
+returns c = search utf8-broken
+
+returns-2 : tie.Need-returns-2 Inv-loop μ-loop
+returns-2 c = search utf8-ended
+
+pub is-utf8-spec : {M : Type 1} → statement M
+is-utf8-spec =
+    tie.close
+    (tie.spec
+    Inv-loop
+    μ-loop
+    loop-holds
+    decode-requires
+    enum-known-next
+    loop-less
+    loop-again
+    enum-told
+    returns
+    returns-2)

@@ -1,0 +1,20 @@
+-- `text::utf8::sequence_length` meets its contract: the count of leading ones fixes the range of the octet.
+-- Assumes nothing.
+use Rattle.text.proofs.utf8.Octets.{leads-two, leads-three, leads-four, leads-none}
+use Rattle.text.proofs.utf8.sequence_length.Statement.{statement}
+use Rattle.text.proofs.utf8.sequence_length.Tie as tie
+
+returns : tie.Need-returns
+returns c = leads-two (c .before .args .lead) (c .before .fits .lead .fits) (c .match .keys1)
+
+returns-2 : tie.Need-returns-2
+returns-2 c = leads-three (c .before .args .lead) (c .before .fits .lead .fits) (c .match .keys2)
+
+returns-3 : tie.Need-returns-3
+returns-3 c = leads-four (c .before .args .lead) (c .before .fits .lead .fits) (c .match .keys3)
+
+returns-4 : tie.Need-returns-4
+returns-4 c = leads-none (c .before .args .lead) (c .before .fits .lead .fits) (c .match .rest .0 .0 .1) (c .match .rest .0 .1) (c .match .rest .1)
+
+pub sequence-length-spec : {M : Type 1} → statement M
+sequence-length-spec = tie.close (tie.spec returns returns-2 returns-3 returns-4)

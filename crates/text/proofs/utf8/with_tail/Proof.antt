@@ -1,0 +1,15 @@
+-- `text::utf8::with_tail` meets its contract: the shift loses nothing of a number below 2 ^ 26, and leaves room for six bits.
+-- Assumes nothing.
+use Rattle.text.proofs.utf8.Octets.{tail-appended}
+use borrow.Author.Needs.{needs}
+use Rattle.text.proofs.utf8.with_tail.Statement.{statement}
+use Rattle.text.proofs.utf8.with_tail.Tie as tie
+
+wide-requires : tie.Need-wide-requires
+wide-requires c κs = search needs
+
+returns : tie.Need-returns
+returns c = search tail-appended
+
+pub with-tail-spec : {M : Type 1} → statement M
+with-tail-spec = tie.close (tie.spec wide-requires returns)
