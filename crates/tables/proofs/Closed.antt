@@ -10,18 +10,18 @@ use borrow.Author.Tests.{ltb-true, leb-true}
 use lib.ListN.{length, getD, set, length-set}
 use lib.Seq.{getD-set-same, getD-set-other}
 use lib.Dec.{ltb, leb, eqb}
-use Rattle.tables.specs.Layout.{fieldWidth, argumentWidth, literalWidth}
-use Rattle.tables.specs.Rows.{all, rowsOf, rowOrNone}
-use Rattle.tables.specs.Names.{isNameRow}
-use Rattle.tables.specs.Schema.{fieldAt, argumentAt}
-use Rattle.tables.specs.Json.{literalAt, literalKey, literalLawful, literalRow}
+use Rattle.rows.specs.Layout.{fieldWidth, argumentWidth, literalWidth}
+use Rattle.rows.specs.Rows.{all, rowsOf, rowOrNone}
+use Rattle.rows.specs.Names.{isNameRow}
+use Rattle.rows.specs.Schema.{fieldAt, argumentAt}
+use Rattle.rows.specs.Json.{literalAt, literalKey, literalLawful, literalRow}
 use Rattle.tables.specs.Defaults.{each, closedBut, closedTo, closed, mark, unmarked, Marked, Defaulted, defaultUnmarked, defaultClosed, fieldUnmarked, argumentUnmarked, fieldDefault, argumentDefault, defaultsClosed}
-use Rattle.tables.specs.declared.rows.Range.{Range}
-use Rattle.tables.specs.declared.rows.Optional.{Optional}
-use Rattle.tables.specs.declared.rows.Optional.the-variants.{Absent, Row}
-use Rattle.tables.specs.declared.json.Literal.{Literal}
-use Rattle.tables.specs.declared.json.Literal.the-variants as literal
-use Rattle.tables.proofs.Every.{all-at, all-same, and-left, and-right}
+use Rattle.rows.specs.declared.layout.Range.{Range}
+use Rattle.rows.specs.declared.layout.Optional.{Optional}
+use Rattle.rows.specs.declared.layout.Optional.the-variants.{Absent, Row}
+use Rattle.rows.specs.declared.json.Literal.{Literal}
+use Rattle.rows.specs.declared.json.Literal.the-variants as literal
+use Rattle.rows.proofs.Every.{all-at, all-same, and-left, and-right}
 
 mark-reads : (b : Bool) → eqb (mark b) 0 ≡ b
 mark-reads true = refl

@@ -7,22 +7,22 @@ use native.Mathlib.Omega.{arith}
 use borrow.Author.Tests.{leb-true}
 use lib.ListN.{length}
 use lib.Dec.{eqb, leb}
-use Rattle.tables.specs.Layout.{fieldWidth, argumentWidth, literalWidth}
+use Rattle.rows.specs.Layout.{fieldWidth, argumentWidth, literalWidth}
 use Rattle.tables.specs.Tables.{Tables}
-use Rattle.tables.specs.Rows.{all, rowsOf, rowOrNone, within, counted}
-use Rattle.tables.specs.Names.{isNameRow}
-use Rattle.tables.specs.Schema.{fieldAt, argumentAt, argumentLawful, fieldLawful, fieldRow, argumentRow, typed}
-use Rattle.tables.specs.Json.{literalRow}
+use Rattle.rows.specs.Rows.{all, rowsOf, rowOrNone, within, counted}
+use Rattle.rows.specs.Names.{isNameRow}
+use Rattle.rows.specs.Schema.{fieldAt, argumentAt, argumentLawful, fieldLawful, fieldRow, argumentRow, typed}
+use Rattle.rows.specs.Json.{literalRow}
 use Rattle.tables.specs.Rules.{ruleAt, rowsFor, holdsAt, obeyed, rowsLawful}
 use Rattle.tables.specs.Defaults.{defaultsClosed, Defaulted}
 use Rattle.tables.specs.Lawful.{lawful, tableCode}
-use Rattle.tables.specs.declared.rows.Optional.{Optional}
-use Rattle.tables.specs.declared.schema.Field.{Field}
+use Rattle.rows.specs.declared.layout.Optional.{Optional}
+use Rattle.rows.specs.declared.schema.Field.{Field}
 use Rattle.tables.specs.declared.rules.Rule.the-variants as rule
 use Rattle.tables.specs.declared.rules.SizeRule.the-variants as size
 use Rattle.tables.specs.declared.rules.SchemaRule.the-variants as schema
 use Rattle.tables.specs.declared.rules.ValueRule.the-variants as value
-use Rattle.tables.proofs.Every.{all-at, and-left, and-right, falsified, verified}
+use Rattle.rows.proofs.Every.{all-at, and-left, and-right, falsified, verified}
 
 module _ (T : Tables) (h : rowsLawful T ≡ true) where
   -- the rule of this number holds at every row that it speaks of

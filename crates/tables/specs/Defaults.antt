@@ -5,15 +5,15 @@ use mathlib.Core.Path.{_≡_}
 use Prim.Native.Nat.{ℕ, zero, suc, _+_, _≤_, _<_}
 use lib.ListN.{length, getD}
 use lib.Dec.{eqb}
-use Rattle.tables.specs.Layout.{fieldWidth, argumentWidth, literalWidth}
-use Rattle.tables.specs.Rows.{all, rowsOf, rowOrNone}
-use Rattle.tables.specs.Schema.{fieldAt, argumentAt}
-use Rattle.tables.specs.Json.{literalAt, literalRow}
-use Rattle.tables.specs.declared.rows.Range.{Range}
-use Rattle.tables.specs.declared.rows.Optional.{Optional}
-use Rattle.tables.specs.declared.rows.Optional.the-variants.{Absent, Row}
-use Rattle.tables.specs.declared.json.Literal.{Literal}
-use Rattle.tables.specs.declared.json.Literal.the-variants as literal
+use Rattle.rows.specs.Layout.{fieldWidth, argumentWidth, literalWidth}
+use Rattle.rows.specs.Rows.{all, rowsOf, rowOrNone}
+use Rattle.rows.specs.Schema.{fieldAt, argumentAt}
+use Rattle.rows.specs.Json.{literalAt, literalRow}
+use Rattle.rows.specs.declared.layout.Range.{Range}
+use Rattle.rows.specs.declared.layout.Optional.{Optional}
+use Rattle.rows.specs.declared.layout.Optional.the-variants.{Absent, Row}
+use Rattle.rows.specs.declared.json.Literal.{Literal}
+use Rattle.rows.specs.declared.json.Literal.the-variants as literal
 
 -- every row of the range passes the test
 abbrev pub each : (ℕ → Bool) → Range → Bool

@@ -1,13 +1,4 @@
-pub mod Answers
-pub mod Ascii
-pub mod Defaults
-pub mod Document
-pub mod Json
-pub mod Lawful
-pub mod Layout
-pub mod Names
-pub mod Rows
-pub mod Rules
-pub mod Schema
-pub mod Strings
 pub mod Tables
+pub mod Rules
+pub mod Defaults
+pub mod Lawful

@@ -4,14 +4,14 @@ use mathlib.Core.Bool.{Bool}
 use Prim.Native.Nat.{ℕ}
 use lib.ListN.{length, getD}
 use lib.Dec.{leb}
-use Rattle.tables.specs.Layout.{nameWidth, typeRefWidth, typeWidth, memberWidth, fieldWidth, argumentWidth, setWidth, selectionWidth, givenWidth, fragmentWidth, nodeWidth, literalWidth, variableWidth, answerWidth}
+use Rattle.rows.specs.Layout.{nameWidth, typeRefWidth, typeWidth, memberWidth, fieldWidth, argumentWidth, setWidth, selectionWidth, givenWidth, fragmentWidth, nodeWidth, literalWidth, variableWidth, answerWidth}
 use Rattle.tables.specs.Tables.{Tables}
-use Rattle.tables.specs.Rows.{all, rowsOf, counted}
-use Rattle.tables.specs.Names.{nameSpelled, nameReserved, nameNew}
-use Rattle.tables.specs.Schema.{typeRefRow, typeRow, typeParts, typeNameNew, memberRow, fieldRow, fieldsDiffer, argumentRow, argumentsDiffer, rootType}
-use Rattle.tables.specs.Document.{setRow, selectionRow, givenRow, givenDiffer, fragmentRow, fragmentNameNew, childSetsLarger, selectionOwnsAlone, fragmentOwnsAlone}
-use Rattle.tables.specs.Json.{nodeRow, nodeKeyRow, nodeKeysDiffer, literalRow, literalKeysDiffer, variableRow, variableNameNew}
-use Rattle.tables.specs.Answers.{answerRow, answerNamesDiffer, rootAnswer}
+use Rattle.rows.specs.Rows.{all, rowsOf, counted}
+use Rattle.rows.specs.Names.{nameSpelled, nameReserved, nameNew}
+use Rattle.rows.specs.Schema.{typeRefRow, typeRow, typeParts, typeNameNew, memberRow, fieldRow, fieldsDiffer, argumentRow, argumentsDiffer, rootType}
+use Rattle.rows.specs.Document.{setRow, selectionRow, givenRow, givenDiffer, fragmentRow, fragmentNameNew, childSetsLarger, selectionOwnsAlone, fragmentOwnsAlone}
+use Rattle.rows.specs.Json.{nodeRow, nodeKeyRow, nodeKeysDiffer, literalRow, literalKeysDiffer, variableRow, variableNameNew}
+use Rattle.rows.specs.Answers.{answerRow, answerNamesDiffer, rootAnswer}
 use Rattle.tables.specs.declared.rules.SizeRule.{SizeRule}
 use Rattle.tables.specs.declared.rules.SizeRule.the-variants as size
 use Rattle.tables.specs.declared.rules.SchemaRule.{SchemaRule}

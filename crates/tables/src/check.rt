@@ -3,7 +3,7 @@ ghost use mathlib.Core.Path.{_≡_};
 ghost use Rattle.tables.specs.Tables.{tables};
 ghost use Rattle.tables.specs.Lawful.{tableCode, lawfulBuffers};
 use crate::defaults::defaults_are_closed;
-use crate::rows::both;
+use rows::layout::both;
 use crate::rules::rows_are_lawful;
 
 pub const LAWFUL: u32 = 0;

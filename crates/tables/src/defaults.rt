@@ -4,21 +4,21 @@ ghost use mathlib.Core.Path.{_≡_};
 ghost use mathlib.Core.Bool.{true};
 ghost use Prim.Native.Nat.{_≤_, _<_};
 ghost use lib.ListN.{length, set};
-ghost use Rattle.tables.specs.Layout.{literalWidth, fieldWidth, argumentWidth};
-ghost use Rattle.tables.specs.Rows.{rowsOf, all};
-ghost use Rattle.tables.specs.Json.{literalRow, literalAt};
+ghost use Rattle.rows.specs.Layout.{literalWidth, fieldWidth, argumentWidth};
+ghost use Rattle.rows.specs.Rows.{rowsOf, all};
+ghost use Rattle.rows.specs.Json.{literalRow, literalAt};
 ghost use Rattle.tables.specs.Defaults.{each, closedBut, mark, unmarked, Marked, Defaulted, defaultUnmarked, fieldUnmarked, argumentUnmarked, defaultsClosed};
-use crate::json::literal_at;
-use crate::json::Literal;
-use crate::json::LITERAL_WIDTH;
-use crate::rows::both;
-use crate::rows::row_count;
-use crate::rows::Optional;
-use crate::rows::Range;
-use crate::schema::argument_at;
-use crate::schema::field_at;
-use crate::schema::ARGUMENT_WIDTH;
-use crate::schema::FIELD_WIDTH;
+use rows::json::literal_at;
+use rows::json::Literal;
+use rows::json::LITERAL_WIDTH;
+use rows::layout::both;
+use rows::layout::row_count;
+use rows::layout::Optional;
+use rows::layout::Range;
+use rows::schema::argument_at;
+use rows::schema::field_at;
+use rows::schema::ARGUMENT_WIDTH;
+use rows::schema::FIELD_WIDTH;
 
 fn is_unmarked(marks: &[u8], row: usize) -> bool
     ensures { λ r. ⌜ r ≡ unmarked (now (marks .entry)) row ⌝ }

@@ -1,10 +1,3 @@
-pub mod answers;
 pub mod check;
 mod defaults;
-pub mod document;
-pub mod json;
-pub mod names;
-pub mod rows;
 pub mod rules;
-pub mod schema;
-pub mod strings;

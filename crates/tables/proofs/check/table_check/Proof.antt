@@ -1,5 +1,5 @@
 -- The two halves of the check say which code the definition gives; the second rests on the first. Assumes nothing.
-use Rattle.tables.proofs.Every.{verified}
+use Rattle.rows.proofs.Every.{verified}
 use Rattle.tables.proofs.Lawful.{defaulted, code-rows, code-defaults, code-lawful}
 use borrow.Author.Needs.{needs}
 use Rattle.tables.proofs.check.table_check.Statement.{statement}

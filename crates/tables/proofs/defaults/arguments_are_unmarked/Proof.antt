@@ -3,9 +3,9 @@ use mathlib.Core.Path.{_≡_}
 use mathlib.Core.Bool.{true}
 use Prim.Native.Nat.{_≤_, _-_, _+_}
 use borrow.Author.Needs.{needs}
-use Rattle.tables.specs.Rows.{all}
+use Rattle.rows.specs.Rows.{all}
 use Rattle.tables.specs.Defaults.{argumentUnmarked}
-use Rattle.tables.proofs.Every.{all-none, all-more, all-broken, all-ended}
+use Rattle.rows.proofs.Every.{all-none, all-more, all-broken, all-ended}
 use borrow.Author.Needs.{needs}
 use Rattle.tables.proofs.defaults.arguments_are_unmarked.Statement.{statement}
 use Rattle.tables.proofs.defaults.arguments_are_unmarked.Tie as tie

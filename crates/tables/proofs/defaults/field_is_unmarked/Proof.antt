@@ -10,7 +10,7 @@ default-is-unmarked-requires : tie.Need-default-is-unmarked-requires
 default-is-unmarked-requires c κs = search needs
 
 returns : tie.Need-returns
-returns c = cc
+returns c = rw (c .default-is-unmarked .ensures, c .before .field-at .ensures)
 
 pub field-is-unmarked-spec : {M : Type 1} → statement M
 field-is-unmarked-spec =

@@ -1,17 +1,13 @@
 -- From the last row on each literal is marked as it is; the parts of a literal come later, and are marked already. Assumes nothing.
 use Prim.Native.Nat.{_≤_}
-use Rattle.tables.specs.Layout.{literalWidth}
-use Rattle.tables.specs.Rows.{rowsOf}
+use Rattle.rows.specs.Layout.{literalWidth}
+use Rattle.rows.specs.Rows.{rowsOf}
 use Rattle.tables.specs.Defaults.{Marked}
 use Rattle.tables.proofs.Closed.{mark-none, mark-turn, mark-end}
 use borrow.Author.Needs.{needs}
 use native.Mathlib.Omega.{arith}
 use Rattle.tables.proofs.defaults.mark_all.Statement.{statement}
 use Rattle.tables.proofs.defaults.mark_all.Tie as tie
-use Rattle.tables.proofs.defaults.mark_all.Reads as reads
-use Rattle.tables.proofs.defaults.mark_all.Lts as lts
-use Rattle.tables.proofs.defaults.mark_row.Reads as mark-row-reads
-use Rattle.tables.proofs.rows.row_count.Reads as row-count-reads
 abbrev Inv-loop : tie.InvT-loop
 Inv-loop pool names literals marks₀ row₀ marks row = (row ≤ rowsOf literals literalWidth) × Marked literals marks row
 

@@ -3,9 +3,9 @@ use mathlib.Core.Path.{_≡_}
 use mathlib.Core.Bool.{true}
 use Prim.Native.Nat.{_≤_, _-_, _+_}
 use borrow.Author.Needs.{needs}
-use Rattle.tables.specs.Rows.{all}
+use Rattle.rows.specs.Rows.{all}
 use Rattle.tables.specs.Defaults.{unmarked}
-use Rattle.tables.proofs.Every.{every}
+use Rattle.rows.proofs.Every.{every}
 use borrow.Author.Needs.{needs}
 use Rattle.tables.proofs.defaults.parts_are_unmarked.Statement.{statement}
 use Rattle.tables.proofs.defaults.parts_are_unmarked.Tie as tie

@@ -10,7 +10,7 @@ is-closed-but-requires : tie.Need-is-closed-but-requires
 is-closed-but-requires c κs = search needs
 
 returns : tie.Need-returns
-returns c = cc
+returns c = rw (c .is-closed-but .ensures, c .before .literal-at .ensures)
 
 pub row-is-closed-spec : {M : Type 1} → statement M
 row-is-closed-spec = tie.close (tie.spec literal-at-requires is-closed-but-requires returns)

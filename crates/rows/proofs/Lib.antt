@@ -1,0 +1,4 @@
+pub mod Cells
+pub mod Every
+pub mod Reserved
+pub mod Same

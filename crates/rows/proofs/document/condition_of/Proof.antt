@@ -1,0 +1,23 @@
+-- The tests say which case holds. Assumes nothing.
+use borrow.Author.Tests.{eq-eqb, ne-eqb}
+use borrow.Author.Needs.{needs}
+use Rattle.rows.proofs.document.condition_of.Statement.{statement}
+use Rattle.rows.proofs.document.condition_of.Tie as tie
+
+returns : tie.Need-returns
+returns c = rw (c .if1 .taken)
+
+returns-2 : tie.Need-returns-2
+returns-2 c = rw (c .if2 .taken)
+
+returns-3 : tie.Need-returns-3
+returns-3 c = rw (c .if3 .taken)
+
+sub-t3 : tie.Need-sub-t3
+sub-t3 c = search needs
+
+returns-4 : tie.Need-returns-4
+returns-4 c = simp (ne-eqb _ _ (c .before .before .if1 .left), ne-eqb _ _ (c .before .if2 .left), ne-eqb _ _ (c .if3 .left))
+
+pub condition-of-spec : {M : Type 1} → statement M
+condition-of-spec = tie.close (tie.spec returns returns-2 returns-3 sub-t3 returns-4)

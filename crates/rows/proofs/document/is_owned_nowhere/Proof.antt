@@ -1,0 +1,54 @@
+-- The selections passed own another set or none; one that owns this one ends the search. Assumes nothing.
+use mathlib.Core.Path.{_≡_}
+use mathlib.Core.Bool.{true}
+use Prim.Native.Nat.{_≤_, _-_, _+_}
+use borrow.Author.Needs.{needs}
+use Rattle.rows.specs.Rows.{all}
+use Rattle.rows.specs.Document.{ownsOther, ownedSet, ownedNowhere}
+use Rattle.rows.proofs.Every.{every}
+use borrow.Author.Needs.{needs}
+use Rattle.rows.proofs.document.is_owned_nowhere.Statement.{statement}
+use Rattle.rows.proofs.document.is_owned_nowhere.Tie as tie
+
+abbrev Inv-loop : tie.InvT-loop
+Inv-loop selections set n j₀ j = (j ≤ n) × (all (λ k. ownsOther set (ownedSet selections k)) j ≡ true)
+
+abbrev μ-loop : tie.MeasureT-loop
+μ-loop selections set n j₀ j = n - j
+
+loop-holds : tie.Need-loop-holds Inv-loop μ-loop
+loop-holds c = (search needs, search every)
+
+owns-other-requires : tie.Need-owns-other-requires Inv-loop μ-loop
+owns-other-requires c κs = search needs
+
+returns : tie.Need-returns Inv-loop μ-loop
+unfolding ownedNowhere
+returns c = search (every, needs)
+
+add-j : tie.Need-add-j Inv-loop μ-loop
+add-j c = search needs
+
+loop-less : tie.Need-loop-less Inv-loop μ-loop
+loop-less c = search needs
+
+loop-again : tie.Need-loop-again Inv-loop μ-loop
+loop-again c = (search needs, search (every, needs))
+
+returns-2 : tie.Need-returns-2 Inv-loop μ-loop
+unfolding ownedNowhere
+returns-2 c = search (every, needs)
+
+pub is-owned-nowhere-spec : {M : Type 1} → statement M
+is-owned-nowhere-spec =
+    tie.close
+    (tie.spec
+    Inv-loop
+    μ-loop
+    loop-holds
+    owns-other-requires
+    returns
+    add-j
+    loop-less
+    loop-again
+    returns-2)

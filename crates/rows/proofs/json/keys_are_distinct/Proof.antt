@@ -1,0 +1,54 @@
+-- Each row passed has a new key; one that has not ends the search. Assumes nothing.
+use mathlib.Core.Path.{_≡_}
+use mathlib.Core.Bool.{true}
+use Prim.Native.Nat.{_≤_, _-_, _+_}
+use borrow.Author.Needs.{needs}
+use Rattle.rows.specs.Rows.{all}
+use Rattle.rows.specs.Json.{keyNew, keysDistinct}
+use Rattle.rows.proofs.Every.{every}
+use borrow.Author.Needs.{needs}
+use Rattle.rows.proofs.json.keys_are_distinct.Statement.{statement}
+use Rattle.rows.proofs.json.keys_are_distinct.Tie as tie
+
+abbrev Inv-loop : tie.InvT-loop
+Inv-loop pool nodes first count i₀ i = (i ≤ count) × (all (keyNew pool nodes first) i ≡ true)
+
+abbrev μ-loop : tie.MeasureT-loop
+μ-loop pool nodes first count i₀ i = count - i
+
+loop-holds : tie.Need-loop-holds Inv-loop μ-loop
+loop-holds c = (search needs, search every)
+
+is-new-key-requires : tie.Need-is-new-key-requires Inv-loop μ-loop
+is-new-key-requires c κs = search needs
+
+returns : tie.Need-returns Inv-loop μ-loop
+unfolding keysDistinct
+returns c = search (every, needs)
+
+add-i : tie.Need-add-i Inv-loop μ-loop
+add-i c = search needs
+
+loop-less : tie.Need-loop-less Inv-loop μ-loop
+loop-less c = search needs
+
+loop-again : tie.Need-loop-again Inv-loop μ-loop
+loop-again c = (search needs, search (every, needs))
+
+returns-2 : tie.Need-returns-2 Inv-loop μ-loop
+unfolding keysDistinct
+returns-2 c = search (every, needs)
+
+pub keys-are-distinct-spec : {M : Type 1} → statement M
+keys-are-distinct-spec =
+    tie.close
+    (tie.spec
+    Inv-loop
+    μ-loop
+    loop-holds
+    is-new-key-requires
+    returns
+    add-i
+    loop-less
+    loop-again
+    returns-2)

@@ -1,0 +1,9 @@
+pub mod Answers
+pub mod Ascii
+pub mod Document
+pub mod Json
+pub mod Layout
+pub mod Names
+pub mod Rows
+pub mod Schema
+pub mod Strings

@@ -1,0 +1,132 @@
+// What every table has: rows of a fixed width, words in columns, and ranges of rows.
+ghost use mathlib.Core.Path.{_≡_};
+ghost use mathlib.Core.Bool.{_&&_};
+ghost use Prim.Native.Nat.{_≤_, _<_, _^_};
+ghost use Rattle.rows.specs.Rows.{rowsOf, cell as Rows·cell, isRow, within, later, counted, other, isNew, distinct, optionOf, rowOrNone};
+
+// Rows that follow one another.
+pub struct Range {
+    pub first: u32,
+    pub count: u32,
+}
+
+// A row, or none: the word is 0 for none, and otherwise one more than the row's number.
+pub enum Optional {
+    Absent,
+    Row(u32),
+}
+
+// How many rows a table has. A row's number is a word, so no more are counted than words can number.
+pub fn row_count(t: &[u32], width: usize) -> u32
+    requires { ⌜ 0 < width ⌝ }
+    ensures { λ r. ⌜ r ≡ rowsOf (now (t .entry)) width ⌝ }
+{
+    let n = t.len() / width;
+    if n < 4294967295 { n as u32 } else { 4294967295 }
+}
+
+// The word in a column of a row; 0 where the table ends before it.
+pub fn cell(t: &[u32], width: usize, row: usize, column: usize) -> u32
+    requires { ⌜ (row < 2 ^ 40) × (width ≤ 16) × (column < 16) ⌝ }
+    ensures { λ r. ⌜ r ≡ Rows·cell (now (t .entry)) width row column ⌝ }
+{
+    let at = row * width + column;
+    if at < t.len() { t[at] } else { 0 }
+}
+
+pub fn optional_row(word: u32) -> Optional
+    ensures { λ r. ⌜ r ≡ optionOf word ⌝ }
+{
+    if word == 0 { Optional::Absent } else { Optional::Row(word - 1) }
+}
+
+// Both sides are looked at in any case: a branch costs more than the second look.
+pub fn both(a: bool, b: bool) -> bool
+    ensures { λ r. ⌜ r ≡ (a && b) ⌝ }
+{
+    a & b
+}
+
+pub fn is_row(t: &[u32], width: usize, row: u32) -> bool
+    requires { ⌜ 0 < width ⌝ }
+    ensures { λ r. ⌜ r ≡ isRow (now (t .entry)) width row ⌝ }
+{
+    row < row_count(t, width)
+}
+
+pub fn is_row_or_none(t: &[u32], width: usize, row: Optional) -> bool
+    requires { ⌜ 0 < width ⌝ }
+    ensures { λ r. ⌜ r ≡ rowOrNone (now (t .entry)) width row ⌝ }
+{
+    match row {
+        Optional::Absent => true,
+        Optional::Row(n) => is_row(t, width, n),
+    }
+}
+
+pub fn is_within(t: &[u32], width: usize, rows: Range) -> bool
+    requires { ⌜ 0 < width ⌝ }
+    ensures { λ r. ⌜ r ≡ within (now (t .entry)) width rows ⌝ }
+{
+    let end = (rows.first as u64) + (rows.count as u64);
+    end <= row_count(t, width) as u64
+}
+
+// The rows are there, and all come after `row`.
+pub fn is_later(t: &[u32], width: usize, row: u32, rows: Range) -> bool
+    requires { ⌜ 0 < width ⌝ }
+    ensures { λ r. ⌜ r ≡ later (now (t .entry)) width row rows ⌝ }
+{
+    let first = rows.first;
+    both(row < first, is_within(t, width, rows))
+}
+
+pub fn is_counted(t: &[u32], width: usize, least: usize, most: usize) -> bool
+    requires { ⌜ 0 < width ⌝ }
+    ensures { λ r. ⌜ r ≡ counted width least most (now (t .entry)) ⌝ }
+{
+    let n = t.len() / width;
+    both(t.len() % width == 0, both(least <= n, n <= most))
+}
+
+// The two rows have different words in the column.
+pub fn is_other(t: &[u32], width: usize, column: usize, one: usize, two: usize) -> bool
+    requires { ⌜ (width ≤ 16) × (column < 16) × (one < 2 ^ 40) × (two < 2 ^ 40) ⌝ }
+    ensures { λ r. ⌜ r ≡ other (now (t .entry)) width column one two ⌝ }
+{
+    cell(t, width, one, column) != cell(t, width, two, column)
+}
+
+// The word of row first + i is in the same column of none of the i rows from first on.
+pub fn is_new(t: &[u32], width: usize, column: usize, first: u32, i: u32) -> bool
+    requires { ⌜ (width ≤ 16) × (column < 16) ⌝ }
+    ensures { λ r. ⌜ r ≡ isNew (now (t .entry)) width column first i ⌝ }
+{
+    let from = first as usize;
+    let row = from + (i as usize);
+    let mut j: u32 = 0;
+    while j < i {
+        if !is_other(t, width, column, row, from + (j as usize)) {
+            return false;
+        }
+        j += 1;
+    }
+    true
+}
+
+// No two rows of the range have the same word in the column.
+pub fn is_distinct(t: &[u32], width: usize, column: usize, rows: Range) -> bool
+    requires { ⌜ (width ≤ 16) × (column < 16) ⌝ }
+    ensures { λ r. ⌜ r ≡ distinct (now (t .entry)) width column rows ⌝ }
+{
+    let first = rows.first;
+    let count = rows.count;
+    let mut i: u32 = 0;
+    while i < count {
+        if !is_new(t, width, column, first, i) {
+            return false;
+        }
+        i += 1;
+    }
+    true
+}

@@ -1,0 +1,56 @@
+-- `text::json::put_escaped_all` meets its contract. The invariant of its loop: the first i bytes of s are written, each escaped. Assumes nothing.
+use mathlib.Core.Path.{refl}
+use Prim.Native.Nat.{_-_}
+use lib.ListN.{length}
+use borrow.Author.Needs.{needs}
+use Rattle.writing.specs.Escape.{escaped, escapedAll}
+use Rattle.writing.proofs.EscapeLaws.{escapedAll-snoc}
+use Rattle.writing.proofs.Putting.{Putting, put-begin, put-again, put-end}
+use Rattle.writing.proofs.json.put_escaped_all.Statement.{statement}
+use Rattle.writing.proofs.json.put_escaped_all.Tie as tie
+
+abbrev Inv-loop : tie.InvT-loop
+Inv-loop text₀ at s next₀ i₀ text next i = Putting escapedAll text₀ at s text next i
+
+abbrev μ-loop : tie.MeasureT-loop
+μ-loop text₀ at s next₀ i₀ text next i = length s - i
+
+loop-holds : tie.Need-loop-holds Inv-loop μ-loop
+unfolding escapedAll
+loop-holds c = put-begin refl _ _ _
+
+shared-slice-read-put-escaped : tie.Need-shared-slice-read-put-escaped Inv-loop μ-loop
+shared-slice-read-put-escaped c = search needs
+
+put-escaped-requires : tie.Need-put-escaped-requires Inv-loop μ-loop
+put-escaped-requires c κs = search needs
+
+add-i : tie.Need-add-i Inv-loop μ-loop
+add-i c = search needs
+
+loop-less : tie.Need-loop-less Inv-loop μ-loop
+loop-less c = search needs
+
+loop-again : tie.Need-loop-again Inv-loop μ-loop
+loop-again c = put-again escaped escapedAll-snoc (c .before .before .before .before .before .before .loop .inv) (c .before .before .before .before .before .loop-test .taken) (c .before .before .put-escaped .ensures)
+
+same-length : tie.Need-same-length Inv-loop μ-loop
+same-length c = search needs
+
+returns : tie.Need-returns Inv-loop μ-loop
+returns c = put-end (c .before .loop .inv) (c .loop-test .left)
+
+pub put-escaped-all-spec : {M : Type 1} → statement M
+put-escaped-all-spec =
+    tie.close
+    (tie.spec
+    Inv-loop
+    μ-loop
+    loop-holds
+    shared-slice-read-put-escaped
+    put-escaped-requires
+    add-i
+    loop-less
+    loop-again
+    same-length
+    returns)

@@ -1,0 +1,48 @@
+-- `text::place::clear` meets its contract. The invariant of its loop: all from `from` to i is zero, and what is before `from` is as it was. Assumes nothing.
+use borrow.Author.Needs.{needs}
+use Prim.Native.Nat.{_-_}
+use lib.ListN.{length}
+use Rattle.writing.proofs.Clearing.{Clearing, clear-begin, clear-again, clear-end}
+use Rattle.writing.proofs.place.clear.Statement.{statement}
+use Rattle.writing.proofs.place.clear.Tie as tie
+
+abbrev Inv-loop : tie.InvT-loop
+Inv-loop text₀ from i₀ text i = Clearing text₀ from text i
+
+abbrev μ-loop : tie.MeasureT-loop
+μ-loop text₀ from i₀ text i = length text₀ - i
+
+loop-holds : tie.Need-loop-holds Inv-loop μ-loop
+loop-holds c = clear-begin (c .args .text .now) (c .args .from)
+
+slice-write-text : tie.Need-slice-write-text Inv-loop μ-loop
+slice-write-text c = search needs
+
+add-i : tie.Need-add-i Inv-loop μ-loop
+add-i c = search needs
+
+loop-less : tie.Need-loop-less Inv-loop μ-loop
+loop-less c = search needs
+
+loop-again : tie.Need-loop-again Inv-loop μ-loop
+loop-again c = clear-again (c .before .loop .inv) (c .loop-test .taken)
+
+same-length : tie.Need-same-length Inv-loop μ-loop
+same-length c = search needs
+
+returns : tie.Need-returns Inv-loop μ-loop
+returns c = clear-end (c .before .loop .inv) (c .loop-test .left)
+
+pub clear-spec : {M : Type 1} → statement M
+clear-spec =
+    tie.close
+    (tie.spec
+    Inv-loop
+    μ-loop
+    loop-holds
+    slice-write-text
+    add-i
+    loop-less
+    loop-again
+    same-length
+    returns)

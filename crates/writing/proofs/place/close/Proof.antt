@@ -1,0 +1,51 @@
+-- `text::place::close` meets its contract. Where nothing was written both brackets are; where something was, the left one takes the place of its first
+-- comma. A text that does not fit is past the end on either way. Assumes nothing.
+use mathlib.Core.Path.{_≡_, sym, ap, _∙_}
+use mathlib.Core.Logic.{⊎-elim}
+use lib.ListN.{length, set, length-set}
+use lib.Seq.{set-out}
+use Rattle.writing.proofs.Closing.{closes-none, closes-some}
+use borrow.Author.Needs.{needs}
+use Rattle.writing.proofs.place.close.Statement.{statement}
+use Rattle.writing.proofs.place.close.Tie as tie
+
+put-requires : tie.Need-put-requires
+put-requires c κs = search needs
+
+put-requires-2 : tie.Need-put-requires-2
+put-requires-2 c κs = search needs
+
+same-length : tie.Need-same-length
+same-length c = search needs
+
+returns : tie.Need-returns
+returns c = closes-none (c .before .before .before .before .before .before .before .before .if1 .taken) (c .before .before .before .before .before .before .put .ensures) (c .before .before .put2 .ensures)
+
+-- the text once the left bracket is written, if there is room for it
+marked : (c : tie.Joined2) → c .if2 .text ≡ set (c .before .before .before .args .text .now) (c .before .before .before .args .start) (c .before .before .before .args .left)
+marked c = ⊎-elim (λ w. w .1) (λ w. w .1 ∙ sym (set-out _ _ _ (w .0 .left))) (c .if2 .came)
+
+slice-write-text : tie.Need-slice-write-text
+slice-write-text c = search needs
+
+put-requires-3 : tie.Need-put-requires-3
+put-requires-3 c κs = search needs
+
+same-length-2 : tie.Need-same-length-2
+same-length-2 c = c .before .before .put3 .kept .0 ∙ ap length (marked (c .before .before .before .before)) ∙ simp length-set
+
+returns-2 : tie.Need-returns-2
+returns-2 c = closes-some (c .before .before .before .before .before .before .before .args .text .now) (c .before .before .before .before .before .before .before .args .left) (c .before .before .before .before .before .if1 .left) (rw (marked (c .before .before .before .before)) at (c .before .before .put3 .ensures))
+
+pub close-spec : {M : Type 1} → statement M
+close-spec =
+    tie.close
+    (tie.spec
+    put-requires
+    put-requires-2
+    same-length
+    returns
+    slice-write-text
+    put-requires-3
+    same-length-2
+    returns-2)

@@ -1,0 +1,29 @@
+-- `text::place::turn_into_place` meets its contract. Where the borders are in order and within the buffer it is rotated, and otherwise it stays; of a text that
+-- fits they are, and the rotation moves what was written last. Assumes nothing.
+use Rattle.writing.proofs.Rotation.{moves-rotated, moves-not-low, moves-not-far, moves-not-over}
+use native.Mathlib.Omega.{arith}
+use borrow.Author.Needs.{needs}
+use Rattle.writing.proofs.place.turn_into_place.Statement.{statement}
+use Rattle.writing.proofs.place.turn_into_place.Tie as tie
+
+rotate-requires : tie.Need-rotate-requires
+rotate-requires c κs = search needs
+
+same-length : tie.Need-same-length
+same-length c = search needs
+
+returns : tie.Need-returns
+returns c = moves-rotated _ _ _ _ (omega arith) (omega arith) (omega arith) (c .before .before .rotate .ensures)
+
+returns-2 : tie.Need-returns-2
+returns-2 c = moves-not-low _ _ _ _ (omega arith) (c .if3 .left)
+
+returns-3 : tie.Need-returns-3
+returns-3 c = moves-not-far _ _ _ _ (omega arith) (c .if2 .left)
+
+returns-4 : tie.Need-returns-4
+returns-4 c = moves-not-over _ _ _ _ (c .if1 .left)
+
+pub turn-into-place-spec : {M : Type 1} → statement M
+turn-into-place-spec =
+    tie.close (tie.spec rotate-requires same-length returns returns-2 returns-3 returns-4)

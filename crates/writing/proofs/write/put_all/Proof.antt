@@ -1,0 +1,54 @@
+-- `text::write::put_all` meets its contract. The invariant of its loop: the first i bytes of s are written. Assumes nothing.
+use borrow.Author.Needs.{needs}
+use mathlib.Core.Path.{refl}
+use mathlib.Core.List.{List, [], _∷_}
+use Prim.Native.Nat.{ℕ, _-_}
+use lib.ListN.{length}
+use Rattle.writing.proofs.Putting.{Putting, put-begin, put-again, put-end}
+use Rattle.writing.proofs.write.put_all.Statement.{statement}
+use Rattle.writing.proofs.write.put_all.Tie as tie
+
+abbrev Inv-loop : tie.InvT-loop
+Inv-loop text₀ at s next₀ i₀ text next i = Putting (λ (l : List ℕ). l) text₀ at s text next i
+
+abbrev μ-loop : tie.MeasureT-loop
+μ-loop text₀ at s next₀ i₀ text next i = length s - i
+
+loop-holds : tie.Need-loop-holds Inv-loop μ-loop
+loop-holds c = put-begin refl _ _ _
+
+shared-slice-read-put : tie.Need-shared-slice-read-put Inv-loop μ-loop
+shared-slice-read-put c = search needs
+
+put-requires : tie.Need-put-requires Inv-loop μ-loop
+put-requires c κs = search needs
+
+add-i : tie.Need-add-i Inv-loop μ-loop
+add-i c = search needs
+
+loop-less : tie.Need-loop-less Inv-loop μ-loop
+loop-less c = search needs
+
+loop-again : tie.Need-loop-again Inv-loop μ-loop
+loop-again c = put-again (λ (x : ℕ). x ∷ []) (λ xs x. refl) (c .before .before .before .before .before .before .loop .inv) (c .before .before .before .before .before .loop-test .taken) (c .before .before .put .ensures)
+
+same-length : tie.Need-same-length Inv-loop μ-loop
+same-length c = search needs
+
+returns : tie.Need-returns Inv-loop μ-loop
+returns c = put-end (c .before .loop .inv) (c .loop-test .left)
+
+pub put-all-spec : {M : Type 1} → statement M
+put-all-spec =
+    tie.close
+    (tie.spec
+    Inv-loop
+    μ-loop
+    loop-holds
+    shared-slice-read-put
+    put-requires
+    add-i
+    loop-less
+    loop-again
+    same-length
+    returns)

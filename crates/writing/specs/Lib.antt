@@ -1,0 +1,5 @@
+pub mod Wrote
+pub mod Literal
+pub mod Decimal
+pub mod Escape
+pub mod WritingExamples

@@ -1,0 +1,8 @@
+// The lowest crate: bytes of a text, read and written.
+//
+// Writing: `write` puts bytes, `json` the tokens of JSON, `words` 32-bit words, and `place` brackets, moves and clears what was written.
+// A buffer is lent and may be too short. No writer refuses: a position past the end says that the text did not fit, and stays past it.
+pub mod json;
+pub mod place;
+pub mod words;
+pub mod write;
