@@ -1,0 +1,88 @@
+// One table file: its answer, or why it is none.
+use crate::explain;
+use crate::lists::line;
+use crate::say;
+use table_file::fault;
+use table_file::layout;
+use table_file::layout::Pool;
+use table_file::layout::Sizes;
+use table_file::layout::Words;
+use verdict::file;
+use verdict::rules;
+
+// What kept a file's text from being read, in the order of `verdict::file`'s numbers.
+fn print_file_fault(why: u32) {
+    say::words(line(
+        b"\n\
+        cannot be opened\n\
+        cannot be read\n\
+        is larger than the 1,048,576 bytes that ladle reads",
+        why as usize,
+    ));
+}
+
+// Why a text is no table file, in the order of `table_file::fault`'s numbers.
+fn print_fault(why: u32) {
+    say::words(line(
+        b"\n\
+        a row before the first table, as [names]\n\
+        no such table\n\
+        nothing but a comment may follow a table's name\n\
+        a number has digits only, and an L behind a 64-bit one\n\
+        the number is too large\n\
+        no such word in this table\n\
+        no such name in [names] so far\n\
+        the string is not closed on its line\n\
+        an escape is one of \\\" \\\\ \\n \\t \\xHH\n\
+        a blank has to follow a string\n\
+        [pool] holds strings only\n\
+        more rows than ladle holds\n\
+        more bytes of strings than ladle holds\n\
+        [root] has one number",
+        why as usize,
+    ));
+}
+
+// The answer, and under it what is wrong.
+fn print_answer(path: &[u8], is_one_of_several: bool, pool: &Pool, words: &Words, sizes: Sizes) {
+    if is_one_of_several {
+        say::words(path);
+        say::words(b": ");
+    }
+    let code = rules::code(pool, words, sizes);
+    say::number(code as u64);
+    say::words(b"\n");
+    if code != 0 {
+        explain::print_broken_rules(pool, words, sizes);
+    }
+}
+
+fn check_text(path: &[u8], is_one_of_several: bool, text: &[u8]) {
+    let mut pool = layout::new_pool();
+    let mut words = layout::new_words();
+    let contents = table_file::read(text, &mut pool, &mut words);
+    if contents.fault != fault::FINE {
+        say::words(path);
+        say::words(b":");
+        say::number(contents.line as u64);
+        say::words(b": ");
+        print_fault(contents.fault);
+        say::words(b"\n");
+        return;
+    }
+    let sizes = contents.sizes;
+    print_answer(path, is_one_of_several, &pool, &words, sizes);
+}
+
+pub fn check(path: &[u8], is_one_of_several: bool) {
+    let mut text = file::new_text();
+    let read = file::read_text(path, &mut text);
+    if read.fault != file::FINE {
+        say::words(path);
+        say::words(b": ");
+        print_file_fault(read.fault);
+        say::words(b"\n");
+        return;
+    }
+    check_text(path, is_one_of_several, file::bytes(&text, read.length));
+}

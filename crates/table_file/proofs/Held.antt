@@ -1,0 +1,43 @@
+-- Sizes stay within their bounds when one of them is set to a number within its own. Assumes nothing.
+use Prim.Native.Nat.{ℕ, suc, zero, _<_, _≤_}
+use mathlib.Core.Path.{_≡_}
+use mathlib.Core.List.{List, [], _∷_}
+use native.Mathlib.Omega.{arith}
+use lib.ListN.{getD, set, replicate}
+use lib.Seq.{getD-set-other}
+use Rattle.table_file.specs.Sizes.{Within}
+
+-- what bounds an element and what is stored bounds the element after the store
+pub set-below :
+    (s : List ℕ) (k j v b : ℕ) → v ≤ b → getD s j 0 ≤ b → getD (set s k v) j 0 ≤ b
+set-below [] k j v b hv h = h
+set-below (x ∷ s) zero zero v b hv h = hv
+set-below (x ∷ s) zero (suc j) v b hv h = h
+set-below (x ∷ s) (suc k) zero v b hv h = h
+set-below (x ∷ s) (suc k) (suc j) v b hv h = set-below s k j v b hv h
+
+-- a store to a table's size
+pub table-set :
+    (s : List ℕ) (k v : ℕ) → Within s → 0 < k → v ≤ 20640 → Within (set s k v)
+table-set s k v w hk hv =
+    record {
+      pool = rw (getD-set-other s k 0 v 0 (λ e. omega arith)) (w .pool);
+      tables = λ j hj. set-below s k j v 20640 hv (w .tables j hj);
+    }
+
+-- a store to the pool's size
+pub pool-set : (s : List ℕ) (v : ℕ) → Within s → v ≤ 69632 → Within (set s 0 v)
+pool-set s v w hv =
+    record {
+      pool = set-below s 0 0 v 69632 hv (w .pool);
+      tables = λ j hj. rw (getD-set-other s 0 j v 0 (λ e. omega arith)) (w .tables j hj);
+    }
+
+zeros-below : (n k b : ℕ) → getD (replicate n 0) k 0 ≤ b
+zeros-below zero k b = omega arith
+zeros-below (suc n) zero b = omega arith
+zeros-below (suc n) (suc k) b = zeros-below n k b
+
+-- where nothing is held, each size is within its bound
+pub nothing-held : (n : ℕ) → Within (replicate n 0)
+nothing-held n = record { pool = zeros-below n 0 69632; tables = λ k h. zeros-below n k 20640 }

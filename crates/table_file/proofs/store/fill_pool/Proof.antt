@@ -1,0 +1,14 @@
+-- `table_file::store::fill_pool` keeps the sizes within their bounds. Assumes nothing.
+use Rattle.table_file.proofs.Held.{pool-set}
+use borrow.Author.Needs.{needs}
+use Rattle.table_file.proofs.store.fill_pool.Statement.{statement}
+use Rattle.table_file.proofs.store.fill_pool.Tie as tie
+
+element-write-sizes : tie.Need-element-write-sizes
+element-write-sizes c = search needs
+
+returns : tie.Need-returns
+returns c = pool-set _ _ (c .pre .1) (c .pre .0)
+
+pub fill-pool-spec : {M : Type 1} → statement M
+fill-pool-spec = tie.close (tie.spec element-write-sizes returns)

@@ -1,0 +1,60 @@
+// Where each table's words lie. The sixteen are numbered in the order in which they are lent; each
+// but the pool has a region of the same size in one array of words, so that a table's first word
+// is found by a product. The region holds the largest table, 2,048 selections of ten words, with
+// sixteen rows to spare: what is one row too long for the table check can still be written.
+pub const POOL: usize = 0;
+
+pub const NAMES: usize = 1;
+
+pub const TYPE_REFS: usize = 2;
+
+pub const TYPES: usize = 3;
+
+pub const MEMBERS: usize = 4;
+
+pub const FIELDS: usize = 5;
+
+pub const ARGUMENTS: usize = 6;
+
+pub const SETS: usize = 7;
+
+pub const SELECTIONS: usize = 8;
+
+pub const GIVEN: usize = 9;
+
+pub const FRAGMENTS: usize = 10;
+
+pub const NODES: usize = 11;
+
+pub const LITERALS: usize = 12;
+
+pub const VARIABLES: usize = 13;
+
+pub const ANSWERS: usize = 14;
+
+pub const ROOT: usize = 15;
+
+// How many there are; as a table's number it stands for none.
+pub const TABLES: usize = 16;
+
+pub const REGION: usize = 20640;
+
+pub const WORDS: usize = 330240;
+
+pub const POOL_BYTES: usize = 69632;
+
+pub type Pool = [u8; POOL_BYTES];
+
+pub type Words = [u32; WORDS];
+
+// How many words there are of each table, and at 0 how many bytes the pool has.
+pub type Sizes = [usize; TABLES];
+
+// A pool and words in which nothing is held yet.
+pub fn new_pool() -> Pool {
+    [0; POOL_BYTES]
+}
+
+pub fn new_words() -> Words {
+    [0; WORDS]
+}
