@@ -5,8 +5,11 @@ use table_file::layout;
 use table_file::layout::Pool;
 use table_file::layout::Sizes;
 use table_file::layout::Words;
+use tables::rules::RULE_COUNT;
 use verdict::rules;
 use verdict::rules::Broken;
+
+const CHILD_SETS_LARGER: u32 = 33;
 
 // The table that a rule of the schema or of sizes speaks of.
 fn schema_table(rule: u32) -> usize {
@@ -71,9 +74,9 @@ fn print_schema_rule(number: usize) {
         names 0 to 11 are __typename Int Float String Boolean ID __schema __type fields interfaces possibleTypes inputFields\n\
         an earlier row has the same name\n\
         a type reference is a kind (0 named, 1 list), non-null (0 or 1), then a name or, in a list, an earlier row\n\
-        a type is a name, a kind (0 to 5), a range of fields and a range of members\n\
-        this kind of type has no fields, or no members\n\
-        another type has the same name\n\
+        a type is a name, a kind, a range of fields and a range of members\n\
+        the kind of the type is none of 0 to 5, or has no fields, or no members\n\
+        an earlier type has the same name\n\
         a member is a name\n\
         a field is a name other than __typename, a type reference, a literal or none, a place and a range of arguments\n\
         two fields of the type have the same name\n\
@@ -92,10 +95,10 @@ fn print_document_rule(number: usize) {
         a given argument is a name and a literal\n\
         two arguments of the selection have the same name\n\
         a fragment is a name, a type condition (a name) and a set\n\
-        another fragment has the same name\n\
+        an earlier fragment has the same name\n\
         a selection of the set has a child set that is not larger than the set\n\
-        the set of the selection has another owner\n\
-        the set of the fragment has another owner",
+        its set belongs to the operation or to an earlier selection\n\
+        its set belongs to the operation, to a selection or to an earlier fragment",
         number,
     ));
 }
@@ -109,7 +112,7 @@ fn print_value_rule(number: usize) {
         a literal is a kind (0 to 10), what it asks for, a place and a key (a name)\n\
         two literals of the object have the same key\n\
         a variable is a name and a node\n\
-        another variable has the same name\n\
+        an earlier variable has the same name\n\
         an answer is a kind (0 to 5), a name, and what its kind asks for\n\
         two answers of the object are for the same field\n\
         the first answer is an object",
@@ -143,8 +146,12 @@ fn print_line(rule: u32, row: u32) {
     say::words(b"\n");
 }
 
-// Prints the rule if it is broken, and answers whether it is.
-fn is_printed(rule: u32, pool: &Pool, words: &Words, sizes: Sizes) -> bool {
+// Prints the rule if it is broken, and answers whether it is. The rule that walks the ranges of the sets is asked only where nothing
+// else is broken: it would walk a range of any length.
+fn is_printed(rule: u32, is_any: bool, pool: &Pool, words: &Words, sizes: Sizes) -> bool {
+    if is_any && rule == CHILD_SETS_LARGER {
+        return false;
+    }
     match rules::first_broken(rule, pool, words, sizes) {
         Broken::At(row) => {
             print_line(rule, row);
@@ -158,8 +165,8 @@ fn is_printed(rule: u32, pool: &Pool, words: &Words, sizes: Sizes) -> bool {
 pub fn print_broken_rules(pool: &Pool, words: &Words, sizes: Sizes) {
     let mut is_any = false;
     let mut rule: u32 = 0;
-    while rule < rules::RULES {
-        if is_printed(rule, pool, words, sizes) {
+    while rule < RULE_COUNT {
+        if is_printed(rule, is_any, pool, words, sizes) {
             is_any = true;
         }
         rule += 1;

@@ -29,7 +29,7 @@ fn print_rule(rule: u32, pool: &Pool, words: &Words, sizes: Sizes) {
 
 fn print_rules(pool: &Pool, words: &Words, sizes: Sizes) {
     let mut rule: u32 = 0;
-    while rule < rules::RULES {
+    while rule < tables::rules::RULE_COUNT {
         print_rule(rule, pool, words, sizes);
         rule += 1;
     }

@@ -52,7 +52,7 @@ fieldSelection selections row = record {
   key = cell selections selectionWidth row 5;
   given = record { first = cell selections selectionWidth row 6; count = cell selections selectionWidth row 7 };
   set = cell selections selectionWidth row 8;
-  ty = cell selections selectionWidth row 9
+  ty = cell selections selectionWidth row 9;
 }
 
 unfoldable pub spreadSelection : List ℕ → ℕ → Selected
@@ -73,7 +73,7 @@ selectionAt selections row = record {
   what = selectionOf selections row;
   skip = conditionOf (cell selections selectionWidth row 1);
   include = conditionOf (cell selections selectionWidth row 2);
-  place = cell selections selectionWidth row 3
+  place = cell selections selectionWidth row 3;
 }
 
 -- a field, a spread or an inline fragment, whose rows are all there
@@ -116,7 +116,7 @@ unfoldable pub fragmentAt : List ℕ → ℕ → Fragment
 fragmentAt fragments row = record {
   name = cell fragments fragmentWidth row 0;
   condition = cell fragments fragmentWidth row 1;
-  set = cell fragments fragmentWidth row 2
+  set = cell fragments fragmentWidth row 2;
 }
 
 abbrev pub fragmentRow : List ℕ → List ℕ → List ℕ → ℕ → Bool

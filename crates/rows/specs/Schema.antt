@@ -56,28 +56,19 @@ typeAt types row = record {
   name = cell types typeWidth row 0;
   kind = kindOf (cell types typeWidth row 1);
   fields = record { first = cell types typeWidth row 2; count = cell types typeWidth row 3 };
-  members = record { first = cell types typeWidth row 4; count = cell types typeWidth row 5 }
+  members = record { first = cell types typeWidth row 4; count = cell types typeWidth row 5 };
 }
 
-abbrev pub known : TypeKind → Bool
-known Scalar = true
-known Enum = true
-known Object = true
-known Interface = true
-known Union = true
-known InputObject = true
-known Unknown = false
-
--- "scalar, enum, object, interface, union, input object", with rows of fields and of members that are there
+-- a name, and rows of fields and of members that are there
 abbrev pub typeLawful : List ℕ → List ℕ → List ℕ → TypeDef → Bool
 typeLawful names members fields type =
-    (isNameRow names (type .name) && known (type .kind))
-    && (within fields fieldWidth (type .fields) && within members memberWidth (type .members))
+    isNameRow names (type .name) && (within fields fieldWidth (type .fields) && within members memberWidth (type .members))
 
 abbrev pub typeRow : List ℕ → List ℕ → List ℕ → List ℕ → ℕ → Bool
 typeRow names types members fields row = typeLawful names members fields (typeAt types row)
 
--- "with values, fields, members or interfaces": how many fields and members a kind may have
+-- "scalar, enum, object, interface, union, input object, with values, fields, members or interfaces": the kind, and how many fields
+-- and members it may have
 abbrev pub partsLawful : TypeKind → ℕ → ℕ → Bool
 partsLawful Scalar fields members = eqb fields 0 && eqb members 0
 partsLawful Enum fields members = eqb fields 0
@@ -108,7 +99,7 @@ fieldAt fields row = record {
   ty = cell fields fieldWidth row 1;
   default = optionOf (cell fields fieldWidth row 2);
   place = cell fields fieldWidth row 3;
-  arguments = record { first = cell fields fieldWidth row 4; count = cell fields fieldWidth row 5 }
+  arguments = record { first = cell fields fieldWidth row 4; count = cell fields fieldWidth row 5 };
 }
 
 -- "Fields and arguments .., with type reference, literal default or none, and place": what the two have in common
@@ -135,7 +126,7 @@ argumentAt arguments row = record {
   name = cell arguments argumentWidth row 0;
   ty = cell arguments argumentWidth row 1;
   default = optionOf (cell arguments argumentWidth row 2);
-  place = cell arguments argumentWidth row 3
+  place = cell arguments argumentWidth row 3;
 }
 
 abbrev pub argumentRow : List ℕ → List ℕ → List ℕ → List ℕ → ℕ → Bool

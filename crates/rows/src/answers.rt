@@ -2,12 +2,12 @@
 ghost use mathlib.Core.Path.{_≡_};
 ghost use Rattle.rows.specs.Answers.{answerOf, answerAt, answerName, answerLawful, answerRow, answerParts, answerNamesDiffer, isObject, rootAnswer};
 use crate::json::is_node_row;
-use crate::names::is_name_row;
+use crate::layout::Range;
 use crate::layout::both;
 use crate::layout::cell;
 use crate::layout::is_distinct;
 use crate::layout::is_within;
-use crate::layout::Range;
+use crate::names::is_name_row;
 
 pub const ANSWER_WIDTH: usize = 5;
 
@@ -29,7 +29,10 @@ fn answer_of(kind: u32, a: u32, b: u32, c: u32) -> Answer
         1 => Answer::Error,
         2 => Answer::Leaf(a),
         3 => Answer::List(Range { first: a, count: b }),
-        4 => Answer::Object { ty: a, fields: Range { first: b, count: c } },
+        4 => Answer::Object {
+            ty: a,
+            fields: Range { first: b, count: c },
+        },
         5 => Answer::Echo(a),
         _ => Answer::Unknown,
     }

@@ -3,8 +3,8 @@ ghost use mathlib.Core.Path.{_≡_};
 ghost use Prim.Native.Nat.{_<_, _^_};
 ghost use Rattle.rows.specs.Document.{setAt, setRow, isSetRow, conditionOf, conditionLawful, fieldSelection, selectionOf, selectionAt, whatLawful, selectionLawful, selectionRow, givenAt, givenRow, givenOf, givenDiffer, fragmentAt, fragmentRow, fragmentNameNew, ownedOf, ownedSet, largerThan, childLarger, childrenLarger, childSetsLarger, ownsOther, ownedNowhere, alone, selectionOwnsAlone, fragmentOwnsAlone, spreadSelection, inlineSelection};
 use crate::json::is_literal_row;
-use crate::names::is_name_row;
-use crate::names::NAME_WIDTH;
+use crate::layout::Optional;
+use crate::layout::Range;
 use crate::layout::both;
 use crate::layout::cell;
 use crate::layout::is_distinct;
@@ -14,13 +14,16 @@ use crate::layout::is_row_or_none;
 use crate::layout::is_within;
 use crate::layout::optional_row;
 use crate::layout::row_count;
-use crate::layout::Optional;
-use crate::layout::Range;
+use crate::names::NAME_WIDTH;
+use crate::names::is_name_row;
 use crate::schema::is_type_ref;
 
 pub const SET_WIDTH: usize = 2;
+
 pub const SELECTION_WIDTH: usize = 10;
+
 pub const GIVEN_WIDTH: usize = 2;
+
 pub const FRAGMENT_WIDTH: usize = 3;
 
 // A skip or an include.
@@ -122,7 +125,9 @@ fn field_selection(selections: &[u32], row: u32) -> FieldSelection
 fn spread_selection(selections: &[u32], row: u32) -> Selected
     ensures { λ r. ⌜ r ≡ spreadSelection (now (selections .entry)) row ⌝ }
 {
-    Selected::Spread { name: cell(selections, SELECTION_WIDTH, row as usize, 4) }
+    Selected::Spread {
+        name: cell(selections, SELECTION_WIDTH, row as usize, 4),
+    }
 }
 
 fn inline_selection(selections: &[u32], row: u32) -> Selected
@@ -130,7 +135,10 @@ fn inline_selection(selections: &[u32], row: u32) -> Selected
 {
     let at = row as usize;
     let condition = optional_row(cell(selections, SELECTION_WIDTH, at, 4));
-    Selected::Inline { condition, set: cell(selections, SELECTION_WIDTH, at, 8) }
+    Selected::Inline {
+        condition,
+        set: cell(selections, SELECTION_WIDTH, at, 8),
+    }
 }
 
 fn what_is_selected(selections: &[u32], row: u32) -> Selected
@@ -153,7 +161,12 @@ pub fn selection_at(selections: &[u32], row: u32) -> Selection
     let include = condition_of(cell(selections, SELECTION_WIDTH, at, 2));
     let place = cell(selections, SELECTION_WIDTH, at, 3);
     let what = what_is_selected(selections, row);
-    Selection { what, skip, include, place }
+    Selection {
+        what,
+        skip,
+        include,
+        place,
+    }
 }
 
 fn condition_is_lawful(names: &[u32], condition: Condition) -> bool
@@ -167,16 +180,34 @@ fn condition_is_lawful(names: &[u32], condition: Condition) -> bool
     }
 }
 
-fn field_selection_is_lawful(names: &[u32], type_refs: &[u32], sets: &[u32], given: &[u32], field: FieldSelection) -> bool
+fn field_selection_is_lawful(
+    names: &[u32],
+    type_refs: &[u32],
+    sets: &[u32],
+    given: &[u32],
+    field: FieldSelection,
+) -> bool
     ensures { λ r. ⌜ r ≡ whatLawful (now (names .entry)) (now («type_refs» .entry)) (now (sets .entry)) (now (given .entry)) (Selected.Field field) ⌝ }
 {
     let its_given = field.given;
-    let named = both(is_name_row(names, field.name), is_name_row(names, field.key));
-    let typed = both(is_within(given, GIVEN_WIDTH, its_given), is_type_ref(type_refs, field.ty));
+    let named = both(
+        is_name_row(names, field.name),
+        is_name_row(names, field.key),
+    );
+    let typed = both(
+        is_within(given, GIVEN_WIDTH, its_given),
+        is_type_ref(type_refs, field.ty),
+    );
     both(both(named, typed), is_set_row(sets, field.set))
 }
 
-fn what_is_lawful(names: &[u32], type_refs: &[u32], sets: &[u32], given: &[u32], what: Selected) -> bool
+fn what_is_lawful(
+    names: &[u32],
+    type_refs: &[u32],
+    sets: &[u32],
+    given: &[u32],
+    what: Selected,
+) -> bool
     ensures { λ r. ⌜ r ≡ whatLawful (now (names .entry)) (now («type_refs» .entry)) (now (sets .entry)) (now (given .entry)) what ⌝ }
 {
     match what {
@@ -190,17 +221,36 @@ fn what_is_lawful(names: &[u32], type_refs: &[u32], sets: &[u32], given: &[u32],
     }
 }
 
-fn selection_is_lawful(names: &[u32], type_refs: &[u32], sets: &[u32], given: &[u32], selection: Selection) -> bool
+fn selection_is_lawful(
+    names: &[u32],
+    type_refs: &[u32],
+    sets: &[u32],
+    given: &[u32],
+    selection: Selection,
+) -> bool
     ensures { λ r. ⌜ r ≡ selectionLawful (now (names .entry)) (now («type_refs» .entry)) (now (sets .entry)) (now (given .entry)) selection ⌝ }
 {
     let skip = selection.skip;
     let include = selection.include;
     let what = selection.what;
-    let conditions = both(condition_is_lawful(names, skip), condition_is_lawful(names, include));
-    both(conditions, what_is_lawful(names, type_refs, sets, given, what))
+    let conditions = both(
+        condition_is_lawful(names, skip),
+        condition_is_lawful(names, include),
+    );
+    both(
+        conditions,
+        what_is_lawful(names, type_refs, sets, given, what),
+    )
 }
 
-pub fn selection_row(names: &[u32], type_refs: &[u32], sets: &[u32], selections: &[u32], given: &[u32], row: u32) -> bool
+pub fn selection_row(
+    names: &[u32],
+    type_refs: &[u32],
+    sets: &[u32],
+    selections: &[u32],
+    given: &[u32],
+    row: u32,
+) -> bool
     ensures { λ r. ⌜ r ≡ selectionRow (now (names .entry)) (now («type_refs» .entry)) (now (sets .entry)) (now (selections .entry)) (now (given .entry)) row ⌝ }
 {
     selection_is_lawful(names, type_refs, sets, given, selection_at(selections, row))
@@ -220,7 +270,10 @@ pub fn given_row(names: &[u32], given: &[u32], literals: &[u32], row: u32) -> bo
     ensures { λ r. ⌜ r ≡ givenRow (now (names .entry)) (now (given .entry)) (now (literals .entry)) row ⌝ }
 {
     let argument = given_at(given, row);
-    both(is_name_row(names, argument.name), is_literal_row(literals, argument.literal))
+    both(
+        is_name_row(names, argument.name),
+        is_literal_row(literals, argument.literal),
+    )
 }
 
 fn given_of(given: &[u32], what: Selected) -> bool
@@ -232,7 +285,10 @@ fn given_of(given: &[u32], what: Selected) -> bool
             is_distinct(given, GIVEN_WIDTH, 0, its_given)
         }
         Selected::Spread { name: _ } => true,
-        Selected::Inline { condition: _, set: _ } => true,
+        Selected::Inline {
+            condition: _,
+            set: _,
+        } => true,
         Selected::Unknown => true,
     }
 }
@@ -258,7 +314,10 @@ pub fn fragment_row(names: &[u32], sets: &[u32], fragments: &[u32], row: u32) ->
     ensures { λ r. ⌜ r ≡ fragmentRow (now (names .entry)) (now (sets .entry)) (now (fragments .entry)) row ⌝ }
 {
     let fragment = fragment_at(fragments, row);
-    let named = both(is_name_row(names, fragment.name), is_name_row(names, fragment.condition));
+    let named = both(
+        is_name_row(names, fragment.name),
+        is_name_row(names, fragment.condition),
+    );
     both(named, is_set_row(sets, fragment.set))
 }
 
@@ -382,5 +441,8 @@ pub fn fragment_owns_alone(selections: &[u32], fragments: &[u32], row: u32) -> b
     let fragment = fragment_at(fragments, row);
     let count = row_count(selections, SELECTION_WIDTH);
     let new = is_new(fragments, FRAGMENT_WIDTH, 2, 0, row);
-    both(is_alone(selections, count, Optional::Row(fragment.set)), new)
+    both(
+        is_alone(selections, count, Optional::Row(fragment.set)),
+        new,
+    )
 }

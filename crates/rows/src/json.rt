@@ -2,22 +2,24 @@
 ghost use mathlib.Core.Path.{_≡_};
 ghost use Prim.Native.Nat.{_<_, _^_};
 ghost use Rattle.rows.specs.Json.{nodeOf, nodeAt, nodeKey, isNegative, nodeLawful, nodeRow, nodeKeyRow, otherKey, keyNew, keysDistinct, keysLawful, nodeKeysDiffer, literalOf, literalAt, literalPlace, literalKey, literalLawful, literalRow, literalParts, literalKeysDiffer, variableAt, variableRow, variableNameNew, isNodeRow, isLiteralRow};
-use crate::names::is_name_row;
+use crate::layout::Range;
 use crate::layout::both;
 use crate::layout::cell;
 use crate::layout::is_distinct;
 use crate::layout::is_later;
 use crate::layout::is_new;
 use crate::layout::is_row;
-use crate::layout::Range;
+use crate::names::is_name_row;
+use crate::strings::Text;
 use crate::strings::is_float_text;
 use crate::strings::is_same;
 use crate::strings::is_string;
 use crate::strings::text_of;
-use crate::strings::Text;
 
 pub const NODE_WIDTH: usize = 5;
+
 pub const LITERAL_WIDTH: usize = 5;
+
 pub const VARIABLE_WIDTH: usize = 2;
 
 // A JSON value. Of an integer the low half stands first; a negative one is given by its magnitude.
@@ -247,7 +249,13 @@ pub fn is_literal_row(literals: &[u32], row: u32) -> bool
     is_row(literals, LITERAL_WIDTH, row)
 }
 
-fn literal_is_lawful(pool: &[u8], names: &[u32], literals: &[u32], row: u32, literal: Literal) -> bool
+fn literal_is_lawful(
+    pool: &[u8],
+    names: &[u32],
+    literals: &[u32],
+    row: u32,
+    literal: Literal,
+) -> bool
     ensures { λ r. ⌜ r ≡ literalLawful (now (pool .entry)) (now (names .entry)) (now (literals .entry)) row literal ⌝ }
 {
     match literal {
@@ -312,7 +320,10 @@ pub fn variable_row(names: &[u32], nodes: &[u32], variables: &[u32], row: u32) -
     ensures { λ r. ⌜ r ≡ variableRow (now (names .entry)) (now (nodes .entry)) (now (variables .entry)) row ⌝ }
 {
     let variable = variable_at(variables, row);
-    both(is_name_row(names, variable.name), is_node_row(nodes, variable.node))
+    both(
+        is_name_row(names, variable.name),
+        is_node_row(nodes, variable.node),
+    )
 }
 
 pub fn variable_name_is_new(variables: &[u32], row: u32) -> bool

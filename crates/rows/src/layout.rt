@@ -37,7 +37,11 @@ pub fn cell(t: &[u32], width: usize, row: usize, column: usize) -> u32
 pub fn optional_row(word: u32) -> Optional
     ensures { λ r. ⌜ r ≡ optionOf word ⌝ }
 {
-    if word == 0 { Optional::Absent } else { Optional::Row(word - 1) }
+    if word == 0 {
+        Optional::Absent
+    } else {
+        Optional::Row(word - 1)
+    }
 }
 
 // Both sides are looked at in any case: a branch costs more than the second look.

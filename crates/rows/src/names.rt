@@ -1,13 +1,14 @@
 // The table of names.
 ghost use mathlib.Core.Path.{_≡_};
+ghost use Prim.Native.Nat.{_≤_, _<_};
 ghost use Rattle.rows.specs.Names.{nameAt, nameText, nameSpelled, reservedAs, nameReserved, otherName, nameNew, isNameRow};
 use crate::layout::both;
 use crate::layout::cell;
 use crate::layout::is_row;
+use crate::strings::Text;
 use crate::strings::is_in_pool;
 use crate::strings::is_same;
 use crate::strings::text_of;
-use crate::strings::Text;
 
 pub const NAME_WIDTH: usize = 2;
 
@@ -40,11 +41,14 @@ pub fn name_is_spelled(pool: &[u8], names: &[u32], row: u32) -> bool
     let name = name_at(names, row);
     let len = name.len;
     let sized = both(1 <= len, len <= 64);
-    both(is_in_pool(pool, name), both(sized, text::names::is_name(text_of(pool, name))))
+    both(
+        is_in_pool(pool, name),
+        both(sized, text::names::is_name(text_of(pool, name))),
+    )
 }
 
-// Whether these bytes may stand at this row: of the first twelve each has its own.
-fn is_reserved_as(row: u32, name: &[u8]) -> bool
+fn is_reserved_for_types(row: u32, name: &[u8]) -> bool
+    requires { ⌜ row < 6 ⌝ }
     ensures { λ r. ⌜ r ≡ reservedAs row (now (name .entry)) ⌝ }
 {
     match row {
@@ -53,15 +57,35 @@ fn is_reserved_as(row: u32, name: &[u8]) -> bool
         2 => is_same(name, b"Float"),
         3 => is_same(name, b"String"),
         4 => is_same(name, b"Boolean"),
-        5 => is_same(name, b"ID"),
+        _ => is_same(name, b"ID"),
+    }
+}
+
+fn is_reserved_for_introspection(row: u32, name: &[u8]) -> bool
+    requires { ⌜ (6 ≤ row) × (row < 12) ⌝ }
+    ensures { λ r. ⌜ r ≡ reservedAs row (now (name .entry)) ⌝ }
+{
+    match row {
         6 => is_same(name, b"__schema"),
         7 => is_same(name, b"__type"),
         8 => is_same(name, b"fields"),
         9 => is_same(name, b"interfaces"),
         10 => is_same(name, b"possibleTypes"),
-        11 => is_same(name, b"inputFields"),
-        _ => true,
+        _ => is_same(name, b"inputFields"),
     }
+}
+
+// Whether these bytes may stand at this row: of the first twelve each has its own.
+fn is_reserved_as(row: u32, name: &[u8]) -> bool
+    ensures { λ r. ⌜ r ≡ reservedAs row (now (name .entry)) ⌝ }
+{
+    if row < 6 {
+        return is_reserved_for_types(row, name);
+    }
+    if row < 12 {
+        return is_reserved_for_introspection(row, name);
+    }
+    true
 }
 
 pub fn name_is_reserved(pool: &[u8], names: &[u32], row: u32) -> bool

@@ -1,8 +1,9 @@
 // The schema's tables: type references, types with their members, fields and arguments.
 ghost use mathlib.Core.Path.{_≡_};
-ghost use Rattle.rows.specs.Schema.{typeRefOf, typeRefAt, refLawful, typeRefRow, kindOf, typeAt, typeLawful, typeRow, known, partsLawful, typeParts, typeNameNew, memberAt, memberRow, fieldAt, fieldLawful, fieldRow, fieldsDiffer, argumentAt, argumentLawful, argumentRow, argumentsDiffer, objectKind, rootType, typed};
+ghost use Rattle.rows.specs.Schema.{typeRefOf, typeRefAt, refLawful, typeRefRow, kindOf, typeAt, typeLawful, typeRow, partsLawful, typeParts, typeNameNew, memberAt, memberRow, fieldAt, fieldLawful, fieldRow, fieldsDiffer, argumentAt, argumentLawful, argumentRow, argumentsDiffer, objectKind, rootType, typed};
 use crate::json::LITERAL_WIDTH;
-use crate::names::is_name_row;
+use crate::layout::Optional;
+use crate::layout::Range;
 use crate::layout::both;
 use crate::layout::cell;
 use crate::layout::is_distinct;
@@ -11,13 +12,16 @@ use crate::layout::is_row;
 use crate::layout::is_row_or_none;
 use crate::layout::is_within;
 use crate::layout::optional_row;
-use crate::layout::Optional;
-use crate::layout::Range;
+use crate::names::is_name_row;
 
 pub const TYPE_REF_WIDTH: usize = 3;
+
 pub const TYPE_WIDTH: usize = 6;
+
 pub const MEMBER_WIDTH: usize = 1;
+
 pub const FIELD_WIDTH: usize = 6;
+
 pub const ARGUMENT_WIDTH: usize = 4;
 
 pub enum TypeRef {
@@ -68,7 +72,10 @@ fn type_ref_of(kind: u32, non_null: u32, of: u32) -> TypeRef
     let nullable = non_null == 0;
     match kind {
         0 => TypeRef::Named { name: of, nullable },
-        1 => TypeRef::ListOf { inner: of, nullable },
+        1 => TypeRef::ListOf {
+            inner: of,
+            nullable,
+        },
         _ => TypeRef::Unknown,
     }
 }
@@ -138,32 +145,16 @@ pub fn type_at(types: &[u32], row: u32) -> TypeDef
     }
 }
 
-fn is_known(kind: TypeKind) -> bool
-    ensures { λ r. ⌜ r ≡ known kind ⌝ }
-{
-    match kind {
-        TypeKind::Scalar => true,
-        TypeKind::Enum => true,
-        TypeKind::Object => true,
-        TypeKind::Interface => true,
-        TypeKind::Union => true,
-        TypeKind::InputObject => true,
-        TypeKind::Unknown => false,
-    }
-}
-
 fn type_is_lawful(names: &[u32], members: &[u32], fields: &[u32], ty: TypeDef) -> bool
     ensures { λ r. ⌜ r ≡ typeLawful (now (names .entry)) (now (members .entry)) (now (fields .entry)) ty ⌝ }
 {
-    let kind = ty.kind;
     let its_fields = ty.fields;
     let its_members = ty.members;
-    let named = both(is_name_row(names, ty.name), is_known(kind));
     let ranged = both(
         is_within(fields, FIELD_WIDTH, its_fields),
         is_within(members, MEMBER_WIDTH, its_members),
     );
-    both(named, ranged)
+    both(is_name_row(names, ty.name), ranged)
 }
 
 pub fn type_row(names: &[u32], types: &[u32], members: &[u32], fields: &[u32], row: u32) -> bool
@@ -231,14 +222,27 @@ pub fn field_at(fields: &[u32], row: u32) -> Field
 }
 
 // What a field and an argument have in common: a name, a type reference, and a literal for a default or none.
-fn is_typed(names: &[u32], type_refs: &[u32], literals: &[u32], name: u32, ty: u32, default: Optional) -> bool
+fn is_typed(
+    names: &[u32],
+    type_refs: &[u32],
+    literals: &[u32],
+    name: u32,
+    ty: u32,
+    default: Optional,
+) -> bool
     ensures { λ r. ⌜ r ≡ argumentLawful (now (names .entry)) (now («type_refs» .entry)) (now (literals .entry)) name ty default ⌝ }
 {
     let named = both(is_name_row(names, name), is_type_ref(type_refs, ty));
     both(named, is_row_or_none(literals, LITERAL_WIDTH, default))
 }
 
-fn field_is_lawful(names: &[u32], type_refs: &[u32], arguments: &[u32], literals: &[u32], field: Field) -> bool
+fn field_is_lawful(
+    names: &[u32],
+    type_refs: &[u32],
+    arguments: &[u32],
+    literals: &[u32],
+    field: Field,
+) -> bool
     ensures { λ r. ⌜ r ≡ fieldLawful (now (names .entry)) (now («type_refs» .entry)) (now (arguments .entry)) (now (literals .entry)) field ⌝ }
 {
     let name = field.name;
@@ -249,7 +253,14 @@ fn field_is_lawful(names: &[u32], type_refs: &[u32], arguments: &[u32], literals
     both(name != 0, both(typed, ranged))
 }
 
-pub fn field_row(names: &[u32], type_refs: &[u32], fields: &[u32], arguments: &[u32], literals: &[u32], row: u32) -> bool
+pub fn field_row(
+    names: &[u32],
+    type_refs: &[u32],
+    fields: &[u32],
+    arguments: &[u32],
+    literals: &[u32],
+    row: u32,
+) -> bool
     ensures { λ r. ⌜ r ≡ fieldRow (now (names .entry)) (now («type_refs» .entry)) (now (fields .entry)) (now (arguments .entry)) (now (literals .entry)) row ⌝ }
 {
     field_is_lawful(names, type_refs, arguments, literals, field_at(fields, row))
@@ -276,12 +287,25 @@ pub fn argument_at(arguments: &[u32], row: u32) -> Argument
     }
 }
 
-pub fn argument_row(names: &[u32], type_refs: &[u32], arguments: &[u32], literals: &[u32], row: u32) -> bool
+pub fn argument_row(
+    names: &[u32],
+    type_refs: &[u32],
+    arguments: &[u32],
+    literals: &[u32],
+    row: u32,
+) -> bool
     ensures { λ r. ⌜ r ≡ argumentRow (now (names .entry)) (now («type_refs» .entry)) (now (arguments .entry)) (now (literals .entry)) row ⌝ }
 {
     let argument = argument_at(arguments, row);
     let default = argument.default;
-    is_typed(names, type_refs, literals, argument.name, argument.ty, default)
+    is_typed(
+        names,
+        type_refs,
+        literals,
+        argument.name,
+        argument.ty,
+        default,
+    )
 }
 
 pub fn arguments_differ(fields: &[u32], arguments: &[u32], row: u32) -> bool

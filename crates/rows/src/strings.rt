@@ -36,13 +36,19 @@ pub fn is_in_pool(pool: &[u8], text: Text) -> bool
 pub fn is_string(pool: &[u8], text: Text) -> bool
     ensures { λ r. ⌜ r ≡ isString (now (pool .entry)) text ⌝ }
 {
-    both(is_in_pool(pool, text), text::utf8::is_utf8(text_of(pool, text)))
+    both(
+        is_in_pool(pool, text),
+        text::utf8::is_utf8(text_of(pool, text)),
+    )
 }
 
 pub fn is_float_text(pool: &[u8], text: Text) -> bool
     ensures { λ r. ⌜ r ≡ isFloatText (now (pool .entry)) text ⌝ }
 {
-    both(is_in_pool(pool, text), text::numbers::is_float(text_of(pool, text)))
+    both(
+        is_in_pool(pool, text),
+        text::numbers::is_float(text_of(pool, text)),
+    )
 }
 
 // The same bytes.

@@ -93,7 +93,7 @@ module _ (pool names literals : List ℕ) (lawful : all (literalRow pool names l
       → Marked literals (set marks row (mark (closedBut (unmarked marks) (literalAt literals row)))) row
   mark-more marks row h few m = record {
     size = length-set marks row _ ∙ m .size;
-    right = λ k l j. go k l j (decLe (suc row) k)
+    right = λ k l j. go k l j (decLe (suc row) k);
   }
     where
       go : (k : ℕ) → row ≤ k → k < count → Dec (suc row ≤ k)

@@ -42,9 +42,9 @@ module _ (T : Tables) (h : rowsLawful T ≡ true) where
   unfolding rowsOf
   few-literals =
       let both : (leb 0 (length (T .literals) / 5) && leb (length (T .literals) / 5) 1024) ≡ true =
-          and-right (eqb (length (T .literals) % 5) 0) (leb 0 (length (T .literals) / 5) && leb (length (T .literals) / 5) 1024) literals-counted in
+      and-right (eqb (length (T .literals) % 5) 0) (leb 0 (length (T .literals) / 5) && leb (length (T .literals) / 5) 1024) literals-counted in
       let most : length (T .literals) / 5 ≤ 1024 =
-          leb-true (length (T .literals) / 5) 1024 (and-right (leb 0 (length (T .literals) / 5)) (leb (length (T .literals) / 5) 1024) both) in
+      leb-true (length (T .literals) / 5) 1024 (and-right (leb 0 (length (T .literals) / 5)) (leb (length (T .literals) / 5) 1024) both) in
       omega arith
 
   of-argument : (name ty : ℕ) (d : Optional) → argumentLawful (T .names) (T .refs) (T .literals) name ty d ≡ true
@@ -55,7 +55,7 @@ module _ (T : Tables) (h : rowsLawful T ≡ true) where
       → rowOrNone (T .literals) literalWidth (f .default) ≡ true
   of-field f e =
       let rest = and-right (not (eqb (f .name) 0))
-          (argumentLawful (T .names) (T .refs) (T .literals) (f .name) (f .ty) (f .default) && within (T .arguments) argumentWidth (f .arguments)) e in
+      (argumentLawful (T .names) (T .refs) (T .literals) (f .name) (f .ty) (f .default) && within (T .arguments) argumentWidth (f .arguments)) e in
       of-argument (f .name) (f .ty) (f .default)
       (and-left (argumentLawful (T .names) (T .refs) (T .literals) (f .name) (f .ty) (f .default)) (within (T .arguments) argumentWidth (f .arguments)) rest)
 

@@ -37,5 +37,5 @@ tables pool names refs types members fields arguments sets selections given frag
   literals = literals;
   variables = variables;
   answers = answers;
-  root = root
+  root = root;
 }

@@ -3,10 +3,11 @@ ghost use mathlib.Core.Path.{_≡_};
 ghost use Rattle.tables.specs.Tables.{tables};
 ghost use Rattle.tables.specs.Lawful.{tableCode, lawfulBuffers};
 use crate::defaults::defaults_are_closed;
-use rows::layout::both;
 use crate::rules::rows_are_lawful;
+use rows::layout::both;
 
 pub const LAWFUL: u32 = 0;
+
 pub const UNLAWFUL: u32 = 1;
 
 pub fn table_check(
@@ -29,7 +30,24 @@ pub fn table_check(
 ) -> u32
     ensures { λ r. ⌜ r ≡ tableCode (tables (now (pool .entry)) (now (names .entry)) (now («type_refs» .entry)) (now (types .entry)) (now (members .entry)) (now (fields .entry)) (now (arguments .entry)) (now (sets .entry)) (now (selections .entry)) (now (given .entry)) (now (fragments .entry)) (now (nodes .entry)) (now (literals .entry)) (now (variables .entry)) (now (answers .entry)) root) ⌝ }
 {
-    if !rows_are_lawful(pool, names, type_refs, types, members, fields, arguments, sets, selections, given, fragments, nodes, literals, variables, answers, root) {
+    if !rows_are_lawful(
+        pool,
+        names,
+        type_refs,
+        types,
+        members,
+        fields,
+        arguments,
+        sets,
+        selections,
+        given,
+        fragments,
+        nodes,
+        literals,
+        variables,
+        answers,
+        root,
+    ) {
         return UNLAWFUL;
     }
     if !defaults_are_closed(pool, names, fields, arguments, literals) {

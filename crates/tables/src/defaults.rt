@@ -8,22 +8,26 @@ ghost use Rattle.rows.specs.Layout.{literalWidth, fieldWidth, argumentWidth};
 ghost use Rattle.rows.specs.Rows.{rowsOf, all};
 ghost use Rattle.rows.specs.Json.{literalRow, literalAt};
 ghost use Rattle.tables.specs.Defaults.{each, closedBut, mark, unmarked, Marked, Defaulted, defaultUnmarked, fieldUnmarked, argumentUnmarked, defaultsClosed};
-use rows::json::literal_at;
-use rows::json::Literal;
 use rows::json::LITERAL_WIDTH;
-use rows::layout::both;
-use rows::layout::row_count;
+use rows::json::Literal;
+use rows::json::literal_at;
 use rows::layout::Optional;
 use rows::layout::Range;
-use rows::schema::argument_at;
-use rows::schema::field_at;
+use rows::layout::both;
+use rows::layout::row_count;
 use rows::schema::ARGUMENT_WIDTH;
 use rows::schema::FIELD_WIDTH;
+use rows::schema::argument_at;
+use rows::schema::field_at;
 
 fn is_unmarked(marks: &[u8], row: usize) -> bool
     ensures { λ r. ⌜ r ≡ unmarked (now (marks .entry)) row ⌝ }
 {
-    if row < marks.len() { marks[row] == 0 } else { true }
+    if row < marks.len() {
+        marks[row] == 0
+    } else {
+        true
+    }
 }
 
 fn parts_are_unmarked(marks: &[u8], rows: Range) -> bool
@@ -147,11 +151,20 @@ fn arguments_are_unmarked(arguments: &[u32], marks: &[u8]) -> bool
 }
 
 // The rows of the literals are lawful, and the defaults of fields and arguments are literals that are there.
-pub(crate) fn defaults_are_closed(pool: &[u8], names: &[u32], fields: &[u32], arguments: &[u32], literals: &[u32]) -> bool
+pub(crate) fn defaults_are_closed(
+    pool: &[u8],
+    names: &[u32],
+    fields: &[u32],
+    arguments: &[u32],
+    literals: &[u32],
+) -> bool
     requires { ⌜ Defaulted (now pool) (now names) (now fields) (now arguments) (now literals) ⌝ }
     ensures { λ r. ⌜ r ≡ defaultsClosed (now (fields .entry)) (now (arguments .entry)) (now (literals .entry)) ⌝ }
 {
     let mut marks = [0u8; 1024];
     mark_all(pool, names, literals, &mut marks);
-    both(fields_are_unmarked(fields, &marks), arguments_are_unmarked(arguments, &marks))
+    both(
+        fields_are_unmarked(fields, &marks),
+        arguments_are_unmarked(arguments, &marks),
+    )
 }

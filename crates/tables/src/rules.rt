@@ -2,10 +2,14 @@
 ghost use mathlib.Core.Path.{_≡_};
 ghost use Rattle.tables.specs.Tables.{tables};
 ghost use Rattle.tables.specs.Rules.{sizeHolds, schemaRows, schemaHolds, documentRows, documentHolds, valueRows, valueHolds, sizeRule, schemaRule, documentRule, valueRule, ruleAt, rowsFor, holdsAt, obeyed, rowsLawful};
+use rows::answers::ANSWER_WIDTH;
 use rows::answers::answer_names_differ;
 use rows::answers::answer_row;
 use rows::answers::root_answer_is_object;
-use rows::answers::ANSWER_WIDTH;
+use rows::document::FRAGMENT_WIDTH;
+use rows::document::GIVEN_WIDTH;
+use rows::document::SELECTION_WIDTH;
+use rows::document::SET_WIDTH;
 use rows::document::child_sets_are_larger;
 use rows::document::fragment_name_is_new;
 use rows::document::fragment_owns_alone;
@@ -15,10 +19,9 @@ use rows::document::given_row;
 use rows::document::selection_owns_alone;
 use rows::document::selection_row;
 use rows::document::set_row;
-use rows::document::FRAGMENT_WIDTH;
-use rows::document::GIVEN_WIDTH;
-use rows::document::SELECTION_WIDTH;
-use rows::document::SET_WIDTH;
+use rows::json::LITERAL_WIDTH;
+use rows::json::NODE_WIDTH;
+use rows::json::VARIABLE_WIDTH;
 use rows::json::literal_keys_differ;
 use rows::json::literal_row;
 use rows::json::node_key_row;
@@ -26,15 +29,17 @@ use rows::json::node_keys_differ;
 use rows::json::node_row;
 use rows::json::variable_name_is_new;
 use rows::json::variable_row;
-use rows::json::LITERAL_WIDTH;
-use rows::json::NODE_WIDTH;
-use rows::json::VARIABLE_WIDTH;
+use rows::layout::is_counted;
+use rows::layout::row_count;
+use rows::names::NAME_WIDTH;
 use rows::names::name_is_new;
 use rows::names::name_is_reserved;
 use rows::names::name_is_spelled;
-use rows::names::NAME_WIDTH;
-use rows::layout::is_counted;
-use rows::layout::row_count;
+use rows::schema::ARGUMENT_WIDTH;
+use rows::schema::FIELD_WIDTH;
+use rows::schema::MEMBER_WIDTH;
+use rows::schema::TYPE_REF_WIDTH;
+use rows::schema::TYPE_WIDTH;
 use rows::schema::argument_row;
 use rows::schema::arguments_differ;
 use rows::schema::field_row;
@@ -45,11 +50,6 @@ use rows::schema::type_name_is_new;
 use rows::schema::type_parts;
 use rows::schema::type_ref_row;
 use rows::schema::type_row;
-use rows::schema::ARGUMENT_WIDTH;
-use rows::schema::FIELD_WIDTH;
-use rows::schema::MEMBER_WIDTH;
-use rows::schema::TYPE_REF_WIDTH;
-use rows::schema::TYPE_WIDTH;
 
 pub const RULE_COUNT: u32 = 46;
 
@@ -319,9 +319,7 @@ fn value_holds(
     }
 }
 
-fn nth_size_rule(
-    k: u32,
-) -> SizeRule
+fn nth_size_rule(k: u32) -> SizeRule
     ensures { λ r. ⌜ r ≡ sizeRule k ⌝ }
 {
     match k {
@@ -343,9 +341,7 @@ fn nth_size_rule(
     }
 }
 
-fn nth_schema_rule(
-    k: u32,
-) -> SchemaRule
+fn nth_schema_rule(k: u32) -> SchemaRule
     ensures { λ r. ⌜ r ≡ schemaRule k ⌝ }
 {
     match k {
@@ -366,9 +362,7 @@ fn nth_schema_rule(
     }
 }
 
-fn nth_document_rule(
-    k: u32,
-) -> DocumentRule
+fn nth_document_rule(k: u32) -> DocumentRule
     ensures { λ r. ⌜ r ≡ documentRule k ⌝ }
 {
     match k {
@@ -385,9 +379,7 @@ fn nth_document_rule(
     }
 }
 
-fn nth_value_rule(
-    k: u32,
-) -> ValueRule
+fn nth_value_rule(k: u32) -> ValueRule
     ensures { λ r. ⌜ r ≡ valueRule k ⌝ }
 {
     match k {
@@ -406,9 +398,7 @@ fn nth_value_rule(
 }
 
 // The rules, numbered in the order in which the table check looks at them.
-pub fn rule_at(
-    k: u32,
-) -> Rule
+pub fn rule_at(k: u32) -> Rule
     ensures { λ r. ⌜ r ≡ ruleAt k ⌝ }
 {
     if k < 14 {
@@ -477,9 +467,47 @@ pub fn rule_holds_at(
     ensures { λ r. ⌜ r ≡ holdsAt rule (tables (now (pool .entry)) (now (names .entry)) (now («type_refs» .entry)) (now (types .entry)) (now (members .entry)) (now (fields .entry)) (now (arguments .entry)) (now (sets .entry)) (now (selections .entry)) (now (given .entry)) (now (fragments .entry)) (now (nodes .entry)) (now (literals .entry)) (now (variables .entry)) (now (answers .entry)) root) row ⌝ }
 {
     match rule {
-        Rule::Size(r) => size_holds(r, pool, names, type_refs, types, fields, arguments, sets, selections, given, fragments, nodes, literals, variables, answers),
-        Rule::Schema(r) => schema_holds(r, pool, names, type_refs, types, members, fields, arguments, literals, root, row),
-        Rule::Document(r) => document_holds(r, names, type_refs, sets, selections, given, fragments, literals, row),
+        Rule::Size(r) => size_holds(
+            r,
+            pool,
+            names,
+            type_refs,
+            types,
+            fields,
+            arguments,
+            sets,
+            selections,
+            given,
+            fragments,
+            nodes,
+            literals,
+            variables,
+            answers,
+        ),
+        Rule::Schema(r) => schema_holds(
+            r,
+            pool,
+            names,
+            type_refs,
+            types,
+            members,
+            fields,
+            arguments,
+            literals,
+            root,
+            row,
+        ),
+        Rule::Document(r) => document_holds(
+            r,
+            names,
+            type_refs,
+            sets,
+            selections,
+            given,
+            fragments,
+            literals,
+            row,
+        ),
         Rule::Value(r) => value_holds(r, pool, names, nodes, literals, variables, answers, row),
     }
 }
@@ -505,10 +533,47 @@ fn rule_holds(
 ) -> bool
     ensures { λ r. ⌜ r ≡ obeyed rule (tables (now (pool .entry)) (now (names .entry)) (now («type_refs» .entry)) (now (types .entry)) (now (members .entry)) (now (fields .entry)) (now (arguments .entry)) (now (sets .entry)) (now (selections .entry)) (now (given .entry)) (now (fragments .entry)) (now (nodes .entry)) (now (literals .entry)) (now (variables .entry)) (now (answers .entry)) root) ⌝ }
 {
-    let rows = rule_rows(rule, pool, names, type_refs, types, members, fields, arguments, sets, selections, given, fragments, nodes, literals, variables, answers, root);
+    let rows = rule_rows(
+        rule,
+        pool,
+        names,
+        type_refs,
+        types,
+        members,
+        fields,
+        arguments,
+        sets,
+        selections,
+        given,
+        fragments,
+        nodes,
+        literals,
+        variables,
+        answers,
+        root,
+    );
     let mut row: u32 = 0;
     while row < rows {
-        if !rule_holds_at(rule, pool, names, type_refs, types, members, fields, arguments, sets, selections, given, fragments, nodes, literals, variables, answers, root, row) {
+        if !rule_holds_at(
+            rule,
+            pool,
+            names,
+            type_refs,
+            types,
+            members,
+            fields,
+            arguments,
+            sets,
+            selections,
+            given,
+            fragments,
+            nodes,
+            literals,
+            variables,
+            answers,
+            root,
+            row,
+        ) {
             return false;
         }
         row += 1;
@@ -537,7 +602,25 @@ fn rule_number_holds(
 ) -> bool
     ensures { λ r. ⌜ r ≡ obeyed (ruleAt k) (tables (now (pool .entry)) (now (names .entry)) (now («type_refs» .entry)) (now (types .entry)) (now (members .entry)) (now (fields .entry)) (now (arguments .entry)) (now (sets .entry)) (now (selections .entry)) (now (given .entry)) (now (fragments .entry)) (now (nodes .entry)) (now (literals .entry)) (now (variables .entry)) (now (answers .entry)) root) ⌝ }
 {
-    rule_holds(rule_at(k), pool, names, type_refs, types, members, fields, arguments, sets, selections, given, fragments, nodes, literals, variables, answers, root)
+    rule_holds(
+        rule_at(k),
+        pool,
+        names,
+        type_refs,
+        types,
+        members,
+        fields,
+        arguments,
+        sets,
+        selections,
+        given,
+        fragments,
+        nodes,
+        literals,
+        variables,
+        answers,
+        root,
+    )
 }
 
 // Every rule holds at every row that it speaks of.
@@ -563,7 +646,25 @@ pub(crate) fn rows_are_lawful(
 {
     let mut k: u32 = 0;
     while k < RULE_COUNT {
-        if !rule_number_holds(k, pool, names, type_refs, types, members, fields, arguments, sets, selections, given, fragments, nodes, literals, variables, answers, root) {
+        if !rule_number_holds(
+            k,
+            pool,
+            names,
+            type_refs,
+            types,
+            members,
+            fields,
+            arguments,
+            sets,
+            selections,
+            given,
+            fragments,
+            nodes,
+            literals,
+            variables,
+            answers,
+            root,
+        ) {
             return false;
         }
         k += 1;

@@ -11,9 +11,6 @@ use tables::rules::rule_at;
 use tables::rules::rule_holds_at;
 use tables::rules::rule_rows;
 
-// How many rules there are that speak of one row each.
-pub const RULES: u32 = 46;
-
 // The first row at which a rule is broken, if there is one.
 pub enum Broken {
     At(u32),

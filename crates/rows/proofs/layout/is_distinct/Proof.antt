@@ -8,6 +8,7 @@ use Rattle.rows.proofs.Every.{every}
 use borrow.Author.Needs.{needs}
 use Rattle.rows.proofs.layout.is_distinct.Statement.{statement}
 use Rattle.rows.proofs.layout.is_distinct.Tie as tie
+
 abbrev Inv-loop : tie.InvT-loop
 Inv-loop t width column first count i₀ i = (i ≤ count) × (all (isNew t width column first) i ≡ true)
 

@@ -8,6 +8,7 @@ use Rattle.rows.proofs.Every.{every}
 use borrow.Author.Needs.{needs}
 use Rattle.rows.proofs.layout.is_new.Statement.{statement}
 use Rattle.rows.proofs.layout.is_new.Tie as tie
+
 abbrev Inv-loop : tie.InvT-loop
 Inv-loop t width column first i from row j₀ j = (j ≤ i) × (all (λ k. other t width column (first + i) (first + k)) j ≡ true)
 

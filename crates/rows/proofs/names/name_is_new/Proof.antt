@@ -9,6 +9,7 @@ use Rattle.rows.proofs.Every.{every}
 use borrow.Author.Needs.{needs}
 use Rattle.rows.proofs.names.name_is_new.Statement.{statement}
 use Rattle.rows.proofs.names.name_is_new.Tie as tie
+
 abbrev Inv-loop : tie.InvT-loop
 Inv-loop pool names row j₀ j = (j ≤ row) × (all (otherName pool names row) j ≡ true)
 

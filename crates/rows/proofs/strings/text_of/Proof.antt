@@ -4,6 +4,7 @@ use Rattle.rows.proofs.Cells.{text-cut, text-none}
 use borrow.Author.Needs.{needs}
 use Rattle.rows.proofs.strings.text_of.Statement.{statement}
 use Rattle.rows.proofs.strings.text_of.Tie as tie
+
 cast-start : tie.Need-cast-start
 cast-start c = search needs
 

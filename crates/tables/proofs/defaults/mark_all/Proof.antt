@@ -8,6 +8,7 @@ use borrow.Author.Needs.{needs}
 use native.Mathlib.Omega.{arith}
 use Rattle.tables.proofs.defaults.mark_all.Statement.{statement}
 use Rattle.tables.proofs.defaults.mark_all.Tie as tie
+
 abbrev Inv-loop : tie.InvT-loop
 Inv-loop pool names literals marks₀ row₀ marks row = (row ≤ rowsOf literals literalWidth) × Marked literals marks row
 
