@@ -1,0 +1,12 @@
+pub mod Run
+pub mod Json
+pub mod Depths
+pub mod Errors
+pub mod Lookup
+pub mod Collect
+pub mod Coerce
+pub mod Complete
+pub mod Report
+pub mod Depth
+pub mod Kit
+pub mod Cases

@@ -1,0 +1,2 @@
+// What a run means: the definition stands in specs/. What the definition and the code share is declared here.
+pub mod errors;
