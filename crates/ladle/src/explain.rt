@@ -146,8 +146,8 @@ fn print_line(rule: u32, row: u32) {
     say::words(b"\n");
 }
 
-// Prints the rule if it is broken, and answers whether it is. The rule that walks the ranges of the sets is asked only where nothing
-// else is broken: it would walk a range of any length.
+// Prints the rule if it is broken, and answers whether it is. The rule that walks the ranges of the sets is asked only where no
+// earlier rule is broken: it would walk a range of any length.
 fn is_printed(rule: u32, is_any: bool, pool: &Pool, words: &Words, sizes: Sizes) -> bool {
     if is_any && rule == CHILD_SETS_LARGER {
         return false;

@@ -1,6 +1,6 @@
 -- What holds of every row below a number: of none, of one more, and where one breaks it. Assumes nothing.
 use mathlib.Core.Path.{_≡_, refl, sym, _∙_}
-use mathlib.Core.Bool.{Bool, true, false, not, _&&_, true≢false, false≢true}
+use mathlib.Core.Bool.{Bool, true, false, not, _&&_, _||_, true≢false, false≢true}
 use Prim.Native.Nat.{ℕ, zero, suc, _+_, _≤_, _<_}
 use native.Mathlib.Nat.{not-suc-le-zero}
 use native.Mathlib.Decide.{decLe}
@@ -71,3 +71,7 @@ and-left false b e = absurd (false≢true e)
 pub and-right : (a b : Bool) → (a && b) ≡ true → b ≡ true
 and-right true b e = e
 and-right false b e = absurd (false≢true e)
+
+pub or-right : (a b : Bool) → (a || b) ≡ true → a ≡ false → b ≡ true
+or-right true b e f = absurd (true≢false f)
+or-right false b e f = e

@@ -1,4 +1,4 @@
--- How many words a row of each table has, and how many rows document 01 allows.
+-- How many words a row of each table has.
 use Prim.Native.Nat.{ℕ}
 
 abbrev pub nameWidth : ℕ

@@ -1,6 +1,6 @@
 -- A table is a list of words, a fixed number of words a row. What every table has: rows, words in columns, ranges of rows.
 use mathlib.Core.List.{List}
-use mathlib.Core.Bool.{Bool, true, false, not, _&&_, cond}
+use mathlib.Core.Bool.{Bool, true, false, not, _&&_, _||_, cond}
 use Prim.Native.Nat.{ℕ, zero, suc, _+_, _*_, _-_, _/_, _%_, min}
 use lib.ListN.{length, getD}
 use lib.Dec.{ltb, leb, eqb}
@@ -37,9 +37,9 @@ rowOrNone t width (Row n) = isRow t width n
 abbrev pub within : List ℕ → ℕ → Range → Bool
 within t width rows = leb (rows .first + rows .count) (rowsOf t width)
 
--- "Children come later."
+-- "Children come later.", where there are any
 abbrev pub later : List ℕ → ℕ → ℕ → Range → Bool
-later t width row rows = ltb row (rows .first) && within t width rows
+later t width row rows = (eqb (rows .count) 0 || ltb row (rows .first)) && within t width rows
 
 -- whole rows, at least so many and at most so many
 abbrev pub counted : ℕ → ℕ → ℕ → List ℕ → Bool

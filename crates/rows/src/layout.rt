@@ -1,6 +1,6 @@
 // What every table has: rows of a fixed width, words in columns, and ranges of rows.
 ghost use mathlib.Core.Path.{_≡_};
-ghost use mathlib.Core.Bool.{_&&_};
+ghost use mathlib.Core.Bool.{_&&_, _||_};
 ghost use Prim.Native.Nat.{_≤_, _<_, _^_};
 ghost use Rattle.rows.specs.Rows.{rowsOf, cell as Rows·cell, isRow, within, later, counted, other, isNew, distinct, optionOf, rowOrNone};
 
@@ -44,7 +44,7 @@ pub fn optional_row(word: u32) -> Optional
     }
 }
 
-// Both sides are looked at in any case: a branch costs more than the second look.
+// Both sides are looked at in any case: straight code is proved by rewriting with what each side is.
 pub fn both(a: bool, b: bool) -> bool
     ensures { λ r. ⌜ r ≡ (a && b) ⌝ }
 {
@@ -76,13 +76,20 @@ pub fn is_within(t: &[u32], width: usize, rows: Range) -> bool
     end <= row_count(t, width) as u64
 }
 
+pub fn either(a: bool, b: bool) -> bool
+    ensures { λ r. ⌜ r ≡ (a || b) ⌝ }
+{
+    a | b
+}
+
 // The rows are there, and all come after `row`.
 pub fn is_later(t: &[u32], width: usize, row: u32, rows: Range) -> bool
     requires { ⌜ 0 < width ⌝ }
     ensures { λ r. ⌜ r ≡ later (now (t .entry)) width row rows ⌝ }
 {
     let first = rows.first;
-    both(row < first, is_within(t, width, rows))
+    let count = rows.count;
+    both(either(count == 0, row < first), is_within(t, width, rows))
 }
 
 pub fn is_counted(t: &[u32], width: usize, least: usize, most: usize) -> bool

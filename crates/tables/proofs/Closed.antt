@@ -1,12 +1,12 @@
 -- Why marking the literals from the last row on finds every variable inside one: a literal's parts come later, so they are marked
 -- before it, and no chain of parts is longer than there are rows. Assumes nothing.
 use mathlib.Core.Path.{_≡_, refl, sym, ap, ap₂, subst, subst⁻¹, _∙_}
-use mathlib.Core.Bool.{Bool, true, false, _&&_}
+use mathlib.Core.Bool.{Bool, true, false, _&&_, _||_}
 use mathlib.Core.List.{List}
 use Prim.Native.Nat.{ℕ, zero, suc, _+_, _-_, _≤_, _<_}
 use native.Mathlib.Decide.{decLe}
 use native.Mathlib.Omega.{arith}
-use borrow.Author.Tests.{ltb-true, leb-true}
+use borrow.Author.Tests.{ltb-true, leb-true, ne-eqb}
 use lib.ListN.{length, getD, set, length-set}
 use lib.Seq.{getD-set-same, getD-set-other}
 use lib.Dec.{ltb, leb, eqb}
@@ -21,7 +21,7 @@ use Rattle.rows.specs.declared.layout.Optional.{Optional}
 use Rattle.rows.specs.declared.layout.Optional.the-variants.{Absent, Row}
 use Rattle.rows.specs.declared.json.Literal.{Literal}
 use Rattle.rows.specs.declared.json.Literal.the-variants as literal
-use Rattle.rows.proofs.Every.{all-at, all-same, and-left, and-right}
+use Rattle.rows.proofs.Every.{all-at, all-same, and-left, and-right, or-right}
 
 mark-reads : (b : Bool) → eqb (mark b) 0 ≡ b
 mark-reads true = refl
@@ -32,12 +32,18 @@ module _ (pool names literals : List ℕ) (lawful : all (literalRow pool names l
   count = rowsOf literals literalWidth
 
   -- two tests that agree on the rows of a later range agree on the range
-  each-same : (p q : ℕ → Bool) (row : ℕ) (rows : Range) → (ltb row (rows .first) && leb (rows .first + rows .count) count) ≡ true
+  each-same : (p q : ℕ → Bool) (row : ℕ) (rows : Range)
+      → ((eqb (rows .count) 0 || ltb row (rows .first)) && leb (rows .first + rows .count) count) ≡ true
       → ((k : ℕ) → row < k → k < count → p k ≡ q k) → each p rows ≡ each q rows
   each-same p q row rows l h =
-      let first : row < rows .first = ltb-true row (rows .first) (and-left (ltb row (rows .first)) (leb (rows .first + rows .count) count) l) in
-      let end : rows .first + rows .count ≤ count = leb-true (rows .first + rows .count) count (and-right (ltb row (rows .first)) (leb (rows .first + rows .count) count) l) in
-      all-same (λ i. p (rows .first + i)) (λ i. q (rows .first + i)) (rows .count) (λ i m. h (rows .first + i) (omega arith) (omega arith))
+      let later = and-left (eqb (rows .count) 0 || ltb row (rows .first)) (leb (rows .first + rows .count) count) l in
+      let end : rows .first + rows .count ≤ count =
+          leb-true (rows .first + rows .count) count (and-right (eqb (rows .count) 0 || ltb row (rows .first)) (leb (rows .first + rows .count) count) l) in
+      all-same (λ i. p (rows .first + i)) (λ i. q (rows .first + i)) (rows .count)
+      (λ i m. let first : row < rows .first = later-first later (omega arith) in h (rows .first + i) (omega arith) (omega arith))
+    where
+      later-first : (eqb (rows .count) 0 || ltb row (rows .first)) ≡ true → (rows .count ≡ 0 → ⊥) → row < rows .first
+      later-first e n = ltb-true row (rows .first) (or-right (eqb (rows .count) 0) (ltb row (rows .first)) e (ne-eqb (rows .count) 0 n))
 
   -- two tests that agree on all later rows agree on the parts of a lawful literal
   parts-same : (p q : ℕ → Bool) (row : ℕ) (l : Literal) → literalLawful pool names literals row l ≡ true
