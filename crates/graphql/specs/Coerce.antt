@@ -23,9 +23,9 @@ use Rattle.rows.specs.declared.json.Node.the-variants as node
 use Rattle.rows.specs.declared.json.Literal.{Literal}
 use Rattle.rows.specs.declared.json.Literal.the-variants as literal
 use Rattle.tables.specs.Tables.{Tables}
-use Rattle.graphql.specs.Run.{Path, err, here, M, pure, halt, fail, when, _>>=_, inOrder}
+use Rattle.graphql.specs.Run.{Path, here, M, pure, halt, fail, when, _>>=_, inOrder}
 use Rattle.graphql.specs.Json.{Json, null, bool, natural, negative, float, string, array, object, Items, noItem, item, Members, noMember, member, Val, absent, val, members}
-use Rattle.graphql.specs.Errors.{nullArgument, innerNull, nullVariable, missingVariable, undefinedInputType, unknownKey, missingInputField, cannotCoerce, missingArgument}
+use Rattle.graphql.specs.Errors.{errorOf, nullArgument, innerNull, nullVariable, missingVariable, undefinedInputType, unknownKey, missingInputField, cannotCoerce, missingArgument}
 use Rattle.graphql.specs.Lookup.{rowsIn, find, any, bytesOf, refOf, nonNull, typeNamed, typeOf, fieldNamed, variableNamed}
 
 -- The values of the arguments, by name.
@@ -127,7 +127,7 @@ module _ (T : Tables) where
 
   -- A literal fails at its own place.
   unfoldable pub failAt : {A : Type 0} → ℕ → ℕ → Path → M A
-  failAt code row p = fail here (err code (literalPlace (T .literals) row) p)
+  failAt code row p = fail here (errorOf code 0 0 (literalPlace (T .literals) row) p)
 
   -- the items of a list literal; "a non-list literal at a list type is wrapped once per level"
   unfoldable pub itemsOf : ℕ → Literal → List ℕ
@@ -259,11 +259,11 @@ module _ (T : Tables) where
     pure ((argumentAt (T .arguments) argument .name, j) ∷ [])
   defaultArgument p argument optional.Absent =
       when (nonNull T (argumentAt (T .arguments) argument .ty))
-      (fail here (err missingArgument (argumentAt (T .arguments) argument .place) p))
+      (fail here (errorOf missingArgument 0 (argumentAt (T .arguments) argument .place) 0 p))
       (pure [])
 
   unfoldable pub nullFor : {A : Type 0} → Path → ℕ → M A
-  nullFor p argument = fail here (err nullArgument (argumentAt (T .arguments) argument .place) p)
+  nullFor p argument = fail here (errorOf nullArgument 0 (argumentAt (T .arguments) argument .place) 0 p)
 
   unfoldable pub variableArgument : Path → ℕ → Option ℕ → M Arguments
   variableArgument p argument none = defaultArgument p argument (argumentAt (T .arguments) argument .default)

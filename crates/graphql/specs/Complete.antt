@@ -18,9 +18,9 @@ use Rattle.rows.specs.declared.document.FieldSelection.{FieldSelection}
 use Rattle.rows.specs.declared.answers.Answer.{Answer}
 use Rattle.rows.specs.declared.answers.Answer.the-variants as answer
 use Rattle.tables.specs.Tables.{Tables}
-use Rattle.graphql.specs.Run.{Path, Segment, name, index, Event, err, skipped, Reach, here, pastList, M, pure, halt, fail, orElse, passed, when, note, _>>=_, anyOrder, inOrder}
+use Rattle.graphql.specs.Run.{Path, Segment, name, index, Event, skipped, Reach, here, pastList, M, pure, halt, fail, orElse, passed, when, note, _>>=_, anyOrder, inOrder}
 use Rattle.graphql.specs.Json.{Json, null, bool, natural, negative, float, string, array, object, Val, absent, val, items, members}
-use Rattle.graphql.specs.Errors.{resolver, nullForNonNull, listTypeWithoutList, listForNonListType, undefinedType, inputObjectType, objectForLeafType, objectTypeUnknown, notInUnion, notImplementing, otherObjectType, leafForComposite, notAnEnumValue, intOverflow, leafOfAnotherKind}
+use Rattle.graphql.specs.Errors.{errorOf, resolver, nullForNonNull, listTypeWithoutList, listForNonListType, undefinedType, inputObjectType, objectForLeafType, objectTypeUnknown, notInUnion, notImplementing, otherObjectType, leafForComposite, notAnEnumValue, intOverflow, leafOfAnotherKind}
 use Rattle.graphql.specs.Lookup.{rowsIn, bytesOf, refOf, nonNull, typeNamed, typeOf, lists, hasValue, fieldNamed, selectionsOf, answerOf, fieldAnswer}
 use Rattle.graphql.specs.Collect.{Group, collect}
 use Rattle.graphql.specs.Coerce.{Arguments, argumentNamed, nodeValue, coerceArgumentValues}
@@ -148,7 +148,7 @@ module _ (T : Tables) where
 
   -- an error at the first field
   unfoldable pub fieldError : {A : Type 0} → ℕ → Group → Path → M A
-  fieldError code g p = fail here (err code (fieldPlace g) p)
+  fieldError code g p = fail here (errorOf code (fieldPlace g) 0 0 p)
 
   unfoldable pub orNull : Bool → M Val → M Val
   orNull true m = m
@@ -329,7 +329,7 @@ module _ (T : Tables) where
 
     unfoldable pub completeItem : (ty : ℕ) → Resolved → Group → Arguments → Path → M Val
     completeItem ty skip g args p = kept absent p
-    completeItem ty error g args p = fail pastList (err resolver (fieldPlace g) p)
+    completeItem ty error g args p = fail pastList (errorOf resolver (fieldPlace g) 0 0 p)
     completeItem ty (leaf j) g args p = orNull (nonNull T ty) (completeValue ty (leaf j) g args p)
     completeItem ty (list rows) g args p = orNull (nonNull T ty) (completeValue ty (list rows) g args p)
     completeItem ty (object' row) g args p = orNull (nonNull T ty) (completeValue ty (object' row) g args p)

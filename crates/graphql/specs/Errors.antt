@@ -2,6 +2,7 @@
 use mathlib.Core.Bool.{Bool, _&&_, _||_, cond}
 use Prim.Native.Nat.{ℕ}
 use lib.Dec.{leb, eqb}
+use Rattle.graphql.specs.Run.{Path, Event, err}
 use Rattle.graphql.specs.declared.errors.PlaceKind.{PlaceKind}
 use Rattle.graphql.specs.declared.errors.PlaceKind.the-variants.{FirstField, ArgumentDefinition, Literal}
 
@@ -84,8 +85,12 @@ placeOf code =
     (cond (leb innerNull code && leb code cannotCoerce) Literal
     FirstField)
 
--- the place of an error among the three that it may have
-unfoldable pub placed : PlaceKind → (field definition literal : ℕ) → ℕ
-placed FirstField field definition literal = field
-placed ArgumentDefinition field definition literal = definition
-placed Literal field definition literal = literal
+-- the place of an error of this code, where its first field, its argument's definition and its literal stand at these places
+unfoldable pub placeAmong : PlaceKind → (field definition literal : ℕ) → ℕ
+placeAmong FirstField field definition literal = field
+placeAmong ArgumentDefinition field definition literal = definition
+placeAmong Literal field definition literal = literal
+
+-- An error of a code, with the places that are at hand there: 0 for the others, which no error of that code has.
+unfoldable pub errorOf : (code field definition literal : ℕ) → Path → Event
+errorOf code field definition literal p = err code (placeAmong (placeOf code) field definition literal) p
