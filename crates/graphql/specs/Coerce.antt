@@ -23,6 +23,7 @@ use Rattle.rows.specs.declared.json.Node.the-variants as node
 use Rattle.rows.specs.declared.json.Literal.{Literal}
 use Rattle.rows.specs.declared.json.Literal.the-variants as literal
 use Rattle.tables.specs.Tables.{Tables}
+use Rattle.graphql.specs.Outcome.{tooFar, variableInLiteral}
 use Rattle.graphql.specs.Run.{Path, here, M, pure, halt, fail, when, _>>=_, inOrder}
 use Rattle.graphql.specs.Json.{Json, null, bool, natural, negative, float, string, array, object, Items, noItem, item, Members, noMember, member, Val, absent, val, members}
 use Rattle.graphql.specs.Errors.{errorOf, nullArgument, innerNull, nullVariable, missingVariable, undefinedInputType, unknownKey, missingInputField, cannotCoerce, missingArgument}
@@ -51,13 +52,13 @@ module _ (T : Tables) where
   -- Containers: `inside` gives the value of a child, or nothing where no more may be open.
   -- Code 3: "33 open containers in a leaf or literal".
   unfoldable pub arrayOf : Option (ℕ → M Json) → List ℕ → M Json
-  arrayOf none rows = halt 3
+  arrayOf none rows = halt tooFar
   arrayOf (some inside) rows = do
     js ← inOrder inside rows
     pure (array (allItems js))
 
   unfoldable pub objectOf : Option (ℕ → M Json) → (ℕ → List ℕ) → List ℕ → M Json
-  objectOf none key rows = halt 3
+  objectOf none key rows = halt tooFar
   objectOf (some inside) key rows = do
     js ← inOrder inside rows
     pure (object (allMembers key rows js))
@@ -116,7 +117,7 @@ module _ (T : Tables) where
     partsOf (literal.List rows) = arrayOf inside (rowsIn rows)
     partsOf (literal.Object rows) = objectOf inside (λ row. bytesOf T (literalKey (T .literals) row)) (rowsIn rows)
     partsOf (literal.Enum name) = pure (string (bytesOf T name))
-    partsOf (literal.Variable name) = halt 5
+    partsOf (literal.Variable name) = halt variableInLiteral
     partsOf literal.Unknown = pure (null true)
 
   unfoldable pub partByPart : ℕ → ℕ → M Json
@@ -167,7 +168,7 @@ module _ (T : Tables) where
   coerceVariable p ty row (some v) = when (isNullVariable v && nonNull T ty) (failAt nullVariable row p) (variableValue v)
 
   unfoldable pub coerceItems : Option (ℕ → ℕ → M Json) → ℕ → List ℕ → M Json
-  coerceItems none inner rows = halt 3
+  coerceItems none inner rows = halt tooFar
   coerceItems (some inside) inner rows = do
     js ← inOrder (λ row. inside inner row) rows
     pure (array (allItems js))
@@ -185,8 +186,8 @@ module _ (T : Tables) where
 
   -- the fields of an input object type, in the type's order
   unfoldable pub inputFields : Option (ℕ → ℕ → M Json) → Option (ℕ → M Json) → Path → (row type : ℕ) → List ℕ → M Json
-  inputFields none parts p row type given = halt 3
-  inputFields (some inside) none p row type given = halt 3
+  inputFields none parts p row type given = halt tooFar
+  inputFields (some inside) none p row type given = halt tooFar
   inputFields (some inside) (some parts) p row type given = do
     vs ← inOrder (λ field. inputField inside parts p row field (givenFor given field) (fieldAt (T .fields) field .default)) (rowsIn (typeOf T type .fields))
     pure (object (members (keysOf (rowsIn (typeOf T type .fields))) vs))

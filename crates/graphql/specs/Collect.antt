@@ -18,6 +18,7 @@ use Rattle.rows.specs.declared.document.Selection.{Selection}
 use Rattle.rows.specs.declared.json.Node.{Node}
 use Rattle.rows.specs.declared.json.Node.the-variants as node
 use Rattle.tables.specs.Tables.{Tables}
+use Rattle.graphql.specs.Outcome.{tooFar, tooManyFields}
 use Rattle.graphql.specs.Run.{M, pure, halt, when, _>>=_}
 use Rattle.graphql.specs.Lookup.{typeNamed, typeOf, lists, fragmentNamed, variableNamed, selectionsOf, find, any}
 
@@ -105,7 +106,7 @@ module _ (T : Tables) where
   -- Code 4: "a 129th field is collected for one set".
   unfoldable pub collectField : ℕ → ℕ → Collected → M Collected
   collectField key row c =
-      when (eqb (c .count) 128) (halt 4)
+      when (eqb (c .count) 128) (halt tooManyFields)
       (pure (record { visited = c .visited; groups = grouped key row (c .groups); count = suc (c .count) }))
 
   -- `open` collects the selections of a fragment's set, one more fragment being open.
@@ -136,7 +137,7 @@ module _ (T : Tables) where
 
   -- Code 3: "33 open fragments in one collection". Inline fragments count.
   unfoldable pub collectWithin : ℕ → ℕ → ℕ → Collected → M Collected
-  collectWithin zero object set c = halt 3
+  collectWithin zero object set c = halt tooFar
   collectWithin (suc room) object set c = collectFields (λ o s d. collectWithin room o s d) object (selectionsOf T set) c
 
   -- the groups of a selection set

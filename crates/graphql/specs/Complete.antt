@@ -18,6 +18,7 @@ use Rattle.rows.specs.declared.document.FieldSelection.{FieldSelection}
 use Rattle.rows.specs.declared.answers.Answer.{Answer}
 use Rattle.rows.specs.declared.answers.Answer.the-variants as answer
 use Rattle.tables.specs.Tables.{Tables}
+use Rattle.graphql.specs.Outcome.{tooFar}
 use Rattle.graphql.specs.Run.{Path, Segment, name, index, Event, skipped, Reach, here, pastList, M, pure, halt, fail, orElse, passed, when, note, _>>=_, anyOrder, inOrder}
 use Rattle.graphql.specs.Json.{Json, null, bool, natural, negative, float, string, array, object, Val, absent, val, items, members}
 use Rattle.graphql.specs.Errors.{errorOf, resolver, nullForNonNull, listTypeWithoutList, listForNonListType, undefinedType, inputObjectType, objectForLeafType, objectTypeUnknown, notInUnion, notImplementing, otherObjectType, leafForComposite, notAnEnumValue, intOverflow, leafOfAnotherKind}
@@ -159,7 +160,7 @@ module _ (T : Tables) where
   -- "A leaf's or echo's containers count as it is taken, ahead of its type". An echo without its argument is an error.
   unfoldable pub echoed : Option Json → M Resolved
   echoed none = pure error
-  echoed (some j) = when (withinContainers 32 j) (pure (leaf j)) (halt 3)
+  echoed (some j) = when (withinContainers 32 j) (pure (leaf j)) (halt tooFar)
 
   unfoldable pub take : Arguments → Answer → ℕ → M Resolved
   take args answer.Skip row = pure skip
@@ -363,7 +364,7 @@ module _ (T : Tables) where
 
   -- Code 3: "a path over 32 segments". `room` is how many segments may still be added.
   unfoldable pub run : ℕ → Task → Path → M Val
-  run zero t p = halt 3
+  run zero t p = halt tooFar
   run (suc room) t p = step (λ t' p'. run room t' p') t p
 
   -- a whole walk: "a run starts from the root type and doesn't look at that answer's type name"

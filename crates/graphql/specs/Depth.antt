@@ -12,6 +12,8 @@ use Rattle.rows.specs.declared.document.Selected.the-variants as selected
 use Rattle.rows.specs.declared.document.FieldSelection.{FieldSelection}
 use Rattle.tables.specs.Tables.{Tables}
 use Rattle.tables.specs.Lawful.{lawful}
+use Rattle.graphql.specs.Outcome.{codeOf}
+use Rattle.graphql.specs.declared.outcome.Outcome.the-variants.{Answered, Unlawful, TooFar, TooDeep}
 use Rattle.graphql.specs.Lookup.{fragmentNamed, selectionsOf}
 
 -- the rise of each fragment that was met, by name
@@ -85,11 +87,11 @@ pub record DepthReport : Type 0 where
   pub place : ℕ
 
 unfoldable pub answered : Checked → DepthReport
-answered tooManySets = record { code = 3; depth' = 0; place = 0 }
-answered (tooDeep place) = record { code = 8; depth' = 0; place = place }
-answered (depth d rises) = record { code = 0; depth' = d; place = 0 }
+answered tooManySets = record { code = codeOf TooFar; depth' = 0; place = 0 }
+answered (tooDeep place) = record { code = codeOf TooDeep; depth' = 0; place = place }
+answered (depth d rises) = record { code = codeOf Answered; depth' = d; place = 0 }
 
 unfoldable pub depthReport : Tables → DepthReport
 depthReport T =
     let checked = answered (checkSet T 32 0 0 []) in
-    cond (lawful T) checked (record { code = 1; depth' = 0; place = 0 })
+    cond (lawful T) checked (record { code = codeOf Unlawful; depth' = 0; place = 0 })

@@ -2,6 +2,7 @@ pub mod Run
 pub mod Json
 pub mod Depths
 pub mod Errors
+pub mod Outcome
 pub mod Lookup
 pub mod Collect
 pub mod Coerce

@@ -12,6 +12,8 @@ use Rattle.rows.specs.declared.document.Selected.{Selected}
 use Rattle.rows.specs.declared.document.Selected.the-variants as selected
 use Rattle.tables.specs.Tables.{Tables}
 use Rattle.tables.specs.Lawful.{lawful, lawfulBuffers}
+use Rattle.graphql.specs.Outcome.{codeOf}
+use Rattle.graphql.specs.declared.outcome.Outcome.the-variants.{Answered, Unlawful, AsksForSchema, TextTooLong, RecordsTooLong}
 use Rattle.graphql.specs.Run.{Segment, name, index, Path, Event, err, givenUp, skipped, Log, Choices, Res, stop, failed, done}
 use Rattle.graphql.specs.Json.{Val, absent, val, print}
 use Rattle.graphql.specs.Lookup.{rowsFrom, any}
@@ -56,9 +58,9 @@ unfoldable pub fitted : (text errors : ℕ) → List ℕ → Log → Report
 fitted text errors out log =
     cond (leb (length out) text)
     (cond (leb (length (recordWords log)) errors)
-    (record { code = 0; text = out; words = recordWords log; records = recordCount log })
-    (refused 7))
-    (refused 6)
+    (record { code = codeOf Answered; text = out; words = recordWords log; records = recordCount log })
+    (refused (codeOf RecordsTooLong)))
+    (refused (codeOf TextTooLong))
 
 -- "Failure at the root makes the data text `null`."
 unfoldable pub ended : (text errors : ℕ) → Res Val → Report
@@ -80,5 +82,5 @@ introspects T = any (λ row. asksSchema (selectionAt (T .selections) row .what))
 unfoldable pub report : Tables → (text errors : ℕ) → Choices → Report
 report T text errors choices =
     let walked = ended text errors (execute T choices) in
-    let allowed = cond (introspects T) (refused 2) walked in
-    cond (lawful T && lawfulBuffers text errors (length choices)) allowed (refused 1)
+    let allowed = cond (introspects T) (refused (codeOf AsksForSchema)) walked in
+    cond (lawful T && lawfulBuffers text errors (length choices)) allowed (refused (codeOf Unlawful))
