@@ -1,1 +1,10 @@
+pub mod There
+pub mod Stable
+pub mod Order
+pub mod Meets
+pub mod Plain
+pub mod Places
+pub mod Collected
+pub mod Nulls
+pub mod Demand3
 pub mod Cases

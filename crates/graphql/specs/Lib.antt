@@ -11,3 +11,4 @@ pub mod Report
 pub mod Depth
 pub mod Kit
 pub mod Cases
+pub mod Demand3
