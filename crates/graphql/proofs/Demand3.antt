@@ -14,9 +14,9 @@ use Rattle.graphql.specs.Run.{err, givenUp, skipped, Log, Choices, Res, 
 use Rattle.graphql.specs.Json.{Json, null, Val, absent, val, print}
 use Rattle.graphql.specs.Complete.{execute}
 use Rattle.graphql.specs.Report.{Report, refused, segmentWords, recordWords, recordCount, dataText, fitted, ended, introspects, report}
-use Rattle.graphql.specs.Demand3.{logOf, recordOf, records, wordsOf, NoneGivenUp, NoneSkipped, dataOf, Place, root, NullAt, placeOfPath, Explained, Shown, OrderHidden, RecordsKept, NullsExplained, ReportsShown}
+use Rattle.graphql.specs.Demand3.{logOf, recordOf, records, wordsOf, NoneGivenUp, NoneSkipped, dataOf, Place, root, NullAt, placeOfPath, Explained, Shown, OrderHidden, RecordsKept, NoneInEither, NullsExplained, ReportsShown}
 use Rattle.graphql.proofs.There.{none-not-some}
-use Rattle.graphql.proofs.Stable.{Refusal, refusal, Agree, stop-l, stop-r, both-failed, both-done, stable-stop}
+use Rattle.graphql.proofs.Stable.{Refusal, refusal, Agree, stop-l, stop-r, both-failed, both-done, none-perm, stable-stop}
 use Rattle.graphql.proofs.Meets.{Post, p-failed, p-done}
 use Rattle.graphql.proofs.Places.{Hit, hit-explained, PresentAt}
 use Rattle.graphql.proofs.Order.{execute-stable}
@@ -27,6 +27,7 @@ use Rattle.graphql.proofs.Nulls.{execute-presents}
 refusal-not : {s : ℕ} → Refusal s → s ≡ 0 → ⊥
 refusal-not (refusal {s = s}) e = omega arith
 
+-- A report of code 0 was refused neither for its buffers, nor before the walk.
 accepted : (b b' : Bool) (r : Report) → (cond b (cond b' r (refused 7)) (refused 6)) .code ≡ 0 → cond b (cond b' r (refused 7)) (refused 6) ≡ r
 unfolding refused
 accepted true true r e = refl
@@ -99,13 +100,12 @@ agree-data (both-failed l) e e' = cc
 agree-data {j} {k} (both-done {a = a} {u = u} {w = w} {c = c} {d = d} s l) e e' =
     Option·some-injective j k (sym e ∙ (done-data a u w c d ∙ (ap (λ (v : Val). dataOf (done v w d)) s ∙ e')))
 
-agree-records : {x y : Res Val} {j k : Json} → Agree x y → dataOf x ≡ some j → dataOf y ≡ some k
-    → NoneGivenUp (logOf x) → NoneGivenUp (logOf y) → Perm (records (logOf x)) (records (logOf y))
-unfolding records logOf dataOf
-agree-records (stop-l r) e e' h k = absurd (none-not-some e)
-agree-records (stop-r r) e e' h k = absurd (none-not-some e')
-agree-records (both-failed l) e e' h k = Perm·filterMap recordOf (l h k)
-agree-records (both-done s l) e e' h k = Perm·filterMap recordOf (l h k)
+agree-logs : {x y : Res Val} {j k : Json} → Agree x y → dataOf x ≡ some j → dataOf y ≡ some k → NoneGivenUp (logOf x) → Perm (logOf x) (logOf y)
+unfolding logOf dataOf
+agree-logs (stop-l r) e e' h = absurd (none-not-some e)
+agree-logs (stop-r r) e e' h = absurd (none-not-some e')
+agree-logs (both-failed l) e e' h = l h
+agree-logs (both-done s l) e e' h = l h
 
 pub orderHidden : OrderHidden
 orderHidden T text errors text' errors' c c' e e' =
@@ -113,9 +113,17 @@ orderHidden T text errors text' errors' c c' e e' =
     let s' = reportsShown T text' errors' c' e' in
     s .text-is ∙ (ap print (agree-data (execute-stable T .at c c') (s .is-data) (s' .is-data)) ∙ sym (s' .text-is))
 
+logs-kept : (T : Tables) (text errors text' errors' : ℕ) (c c' : Choices) → report T text errors c .code ≡ 0 → report T text' errors' c' .code ≡ 0
+    → NoneGivenUp (logOf (execute T c)) → Perm (logOf (execute T c)) (logOf (execute T c'))
+logs-kept T text errors text' errors' c c' e e' =
+    agree-logs (execute-stable T .at c c') (reportsShown T text errors c e .is-data) (reportsShown T text' errors' c' e' .is-data)
+
 pub recordsKept : RecordsKept
-recordsKept T text errors text' errors' c c' e e' =
-    agree-records (execute-stable T .at c c') (reportsShown T text errors c e .is-data) (reportsShown T text' errors' c' e' .is-data)
+unfolding records
+recordsKept T text errors text' errors' c c' e e' n n' = Perm·filterMap recordOf (logs-kept T text errors text' errors' c c' e e' n)
+
+pub noneInEither : NoneInEither
+noneInEither T text errors text' errors' c c' e e' n = none-perm n (logs-kept T text errors text' errors' c c' e e' n)
 
 -- ---- (c)
 

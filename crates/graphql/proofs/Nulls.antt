@@ -19,7 +19,7 @@ use Rattle.graphql.specs.Json.{Json, Val, absent, val}
 use Rattle.graphql.specs.Collect.{Group}
 use Rattle.graphql.specs.Errors.{errorOf}
 use Rattle.graphql.specs.Coerce.{Arguments}
-use Rattle.graphql.specs.Complete.{Resolved, skip, error, leaf, list, object', Task, field, item, Definition, typename, defined, Whole, fits, overflows, other, numbered, fieldError, orNull, echoed, take, takeAnswer, leafIf, intLeaf, scalarLeaf, enumLeaf, completeLeaf, asMember, asImplementer, objectType, executeGroup, executeSelectionSet, completeListAt, completeListValue, completeObject, completeNamed, completeSingle, completeLeafAt, completeValue, kept, completeItem, executeTypename, executeDefined, executeField, step, run, execute}
+use Rattle.graphql.specs.Complete.{Resolved, skip, error, leaf, list, object', Task, field, item, Definition, typename, defined, Whole, fits, overflows, other, numbered, fieldError, nullUnless, echoed, take, takeAnswer, leafIf, intLeaf, scalarLeaf, enumLeaf, completeLeaf, asMember, asImplementer, objectType, executeGroup, executeSelectionSet, completeListAt, completeListValue, completeObject, completeNamed, completeSingle, completeLeafAt, completeValue, kept, completeItem, executeTypename, executeDefined, executeField, step, run, execute}
 use Rattle.graphql.specs.Demand3.{Place, placeOfPath}
 use Rattle.graphql.proofs.There.{IfThere, not-there, there}
 use Rattle.graphql.proofs.Meets.{Meets, Mono, meets-pure, meets-halt, meets-fail, meets-orElse, meets-passed, meets-when, meets-weaken, meets-note, meets-map, meets-then, meets-inOrder, meets-anyOrder, every-nil}
@@ -67,6 +67,7 @@ module _ (T : Tables) where
 
   -- ---- Complete
 
+  -- A failure at `p` has its record at `p` or below; a value that is done there is one that must be there, or one that may be left out.
   abbrev Presents : Path → M Val → Type 0
   Presents p = Meets (Hit T (placeOfPath T p)) (PresentAt T (placeOfPath T p))
 
@@ -80,15 +81,15 @@ module _ (T : Tables) where
   unfolding fieldError errorOf
   fieldError-meets code g p = meets-fail _ _ (hit-here T p _ _)
 
-  orNull-presents : (b : Bool) {q : Place} {m : M Val} → Meets (Hit T q) (PresentAt T q) m → Meets (Hit T q) (PresentAt T q) (orNull T b m)
-  unfolding orNull
-  orNull-presents true h = h
-  orNull-presents false {q} h = meets-orElse h (λ w e _. covered-null T q w e)
+  nullUnless-presents : (b : Bool) {q : Place} {m : M Val} → Meets (Hit T q) (PresentAt T q) m → Meets (Hit T q) (PresentAt T q) (nullUnless T b m)
+  unfolding nullUnless
+  nullUnless-presents true h = h
+  nullUnless-presents false {q} h = meets-orElse h (λ w e _. covered-null T q w e)
 
-  orNull-fields : (b : Bool) {q : Place} {m : M Val} → Meets (Hit T q) (FieldAt T q) m → Meets (Hit T q) (FieldAt T q) (orNull T b m)
-  unfolding orNull
-  orNull-fields true h = h
-  orNull-fields false {q} h = meets-orElse h (λ w e _. covered-null T q w e)
+  nullUnless-fields : (b : Bool) {q : Place} {m : M Val} → Meets (Hit T q) (FieldAt T q) m → Meets (Hit T q) (FieldAt T q) (nullUnless T b m)
+  unfolding nullUnless
+  nullUnless-fields true h = h
+  nullUnless-fields false {q} h = meets-orElse h (λ w e _. covered-null T q w e)
 
   module _ {j : Json} (h : Plain j) (g : Group) (p : Path) where
     leaf-presents : Presents p (pure (val j))
@@ -152,7 +153,7 @@ module _ (T : Tables) where
   objectType-types type kind.InputObject n g p = fieldError-meets _ g p
   objectType-types type kind.Unknown n g p = fieldError-meets _ g p
 
-  -- what a task is given, and what it gives
+  -- what a task is given, and what it gives: an item is skipped or there, a field may be left out
   abbrev Fair : Task → Type 0
   Fair (field type answer g) = Unit
   Fair (item ty answer g args) = PlainArguments args
@@ -177,7 +178,7 @@ module _ (T : Tables) where
     listAt-presents : (nullable : Bool) (inner : ℕ) (rows : List ℕ) (g : Group) {args : Arguments} → PlainArguments args → (p : Path) → Presents p (completeListAt T rec nullable inner rows g args p)
     unfolding completeListAt
     listAt-presents nullable inner rows g {args} k p =
-        meets-passed (orNull-presents (not nullable) (
+        meets-passed (nullUnless-presents (not nullable) (
         meets-map _ (meets-inOrder (hit-more T (placeOfPath T p)) (λ ia. present-more T (placeOfPath T (p ++ (index (ia .0) ∷ []))))
         (λ ia. meets-weaken (hit-up T p (index (ia .0))) (λ v w e. e) (h (item inner (ia .1) g args) (p ++ (index (ia .0) ∷ [])) k)) (numbered 0 rows))
         (λ vs w e n. record { hit = array-hit T p rows vs w n e })))
@@ -223,7 +224,7 @@ module _ (T : Tables) where
     value-fields ty answered-skip g k p = meets-pure _ tt
     value-fields ty (answered a) g k p = present-as-field (given-presents ty a g k p)
 
-    skipped-presents : (p : Path) → Presents p (kept T rec absent p)
+    skipped-presents : (p : Path) → Presents p (kept T absent p)
     unfolding kept
     skipped-presents p =
         meets-note {P = λ v w. v ≡ absent} (skipped p) (λ w. hit-more T (placeOfPath T p) w (skipped p ∷ w) (λ a m. mem-cons-of-mem (skipped p) m))
@@ -233,9 +234,9 @@ module _ (T : Tables) where
     unfolding completeItem errorOf
     item-presents ty answered-skip g k p = skipped-presents p
     item-presents ty (answered given-error) g k p = meets-fail _ _ (hit-here T p _ _)
-    item-presents ty (answered (given-leaf j)) g k p = orNull-presents _ (given-presents ty (given-leaf j) g k p)
-    item-presents ty (answered given-list) g k p = orNull-presents _ (given-presents ty given-list g k p)
-    item-presents ty (answered given-object) g k p = orNull-presents _ (given-presents ty given-object g k p)
+    item-presents ty (answered (given-leaf j)) g k p = nullUnless-presents _ (given-presents ty (given-leaf j) g k p)
+    item-presents ty (answered given-list) g k p = nullUnless-presents _ (given-presents ty given-list g k p)
+    item-presents ty (answered given-object) g k p = nullUnless-presents _ (given-presents ty given-object g k p)
 
     typename-fields : (type : ℕ) (g : Group) (p : Path) → Fields p (executeTypename T rec type g p)
     unfolding executeTypename
@@ -246,7 +247,7 @@ module _ (T : Tables) where
     defined-fields f answer g given p =
         let mf = hit-more T (placeOfPath T p) in
         let mr = field-more T (placeOfPath T p) in
-        orNull-fields _ (meets-then mf mr (arguments-given T mf p (hit-here T p) _ given)
+        nullUnless-fields _ (meets-then mf mr (arguments-given T mf p (hit-here T p) _ given)
         (λ args a. meets-then mf mr (takeAnswer-answers mf a _) (λ r k. value-fields _ k g a p)))
 
     field-fields : (type answer : ℕ) (g : Group) (d : Option Definition) (p : Path) → Fields p (executeField T rec type answer g d p)

@@ -24,7 +24,7 @@ use Rattle.graphql.specs.Run.{Path, M}
 use Rattle.graphql.specs.Json.{Json, Val, absent, val}
 use Rattle.graphql.specs.Collect.{Collected, Group, collectField, enterFragment, spread, collectSelected, collectFields, collectWithin, collect}
 use Rattle.graphql.specs.Coerce.{Arguments, arrayOf, objectOf, valueOf, nodeValue, variableValue, partsOf, partByPart, failAt, coerceVariable, coerceItems, inputField, inputFields, inputObject, coerceAt, coerceNamed, coerceBy, coerceLiteral, coerceValue, defaultArgument, nullFor, variableArgument, literalArgument, givenArgument, coerceArgument, coerceArgumentValues}
-use Rattle.graphql.specs.Complete.{Resolved, skip, error, leaf, list, object', Task, field, item, Definition, typename, defined, Whole, fits, overflows, other, fieldError, orNull, echoed, take, takeAnswer, leafIf, intLeaf, scalarLeaf, enumLeaf, completeLeaf, asMember, asImplementer, objectType, executeGroup, executeSelectionSet, completeListAt, completeListValue, completeObject, completeNamed, completeSingle, completeLeafAt, completeValue, kept, completeItem, executeTypename, executeDefined, executeField, step, run, execute}
+use Rattle.graphql.specs.Complete.{Resolved, skip, error, leaf, list, object', Task, field, item, Definition, typename, defined, Whole, fits, overflows, other, fieldError, nullUnless, echoed, take, takeAnswer, leafIf, intLeaf, scalarLeaf, enumLeaf, completeLeaf, asMember, asImplementer, objectType, executeGroup, executeSelectionSet, completeListAt, completeListValue, completeObject, completeNamed, completeSingle, completeLeafAt, completeValue, kept, completeItem, executeTypename, executeDefined, executeField, step, run, execute}
 use Rattle.graphql.proofs.There.{IfThere, not-there, there}
 use Rattle.graphql.proofs.Stable.{Stable, stable, depth-refused, stable-pure, stable-halt, stable-bind, stable-inOrder}
 
@@ -252,10 +252,10 @@ module _ (T : Tables) where
   unfolding fieldError
   fieldError-stable code g p = search stable
 
-  orNull-stable : (b : Bool) {m : M Val} → Stable m → Stable (orNull T b m)
-  unfolding orNull
-  orNull-stable true k = k
-  orNull-stable false k = search stable
+  nullUnless-stable : (b : Bool) {m : M Val} → Stable m → Stable (nullUnless T b m)
+  unfolding nullUnless
+  nullUnless-stable true k = k
+  nullUnless-stable false k = search stable
 
   echoed-stable : (j : Option Json) → Stable (echoed T j)
   unfolding echoed
@@ -338,7 +338,7 @@ module _ (T : Tables) where
 
     listAt-stable : (nullable : Bool) (inner : ℕ) (rows : List ℕ) (g : Group) (args : Arguments) (p : Path) → Stable (completeListAt T rec nullable inner rows g args p)
     unfolding completeListAt
-    listAt-stable nullable inner rows g args p = search (stable, orNull-stable)
+    listAt-stable nullable inner rows g args p = search (stable, nullUnless-stable)
 
     listValue-stable : (t : TypeRef) (rows : List ℕ) (g : Group) (args : Arguments) (p : Path) → Stable (completeListValue T rec t rows g args p)
     unfolding completeListValue
@@ -377,7 +377,7 @@ module _ (T : Tables) where
     value-stable ty (list rows) g args p = listValue-stable _ rows g args p
     value-stable ty (object' row) g args p = single-stable _ _ g p
 
-    kept-stable : (v : Val) (p : Path) → Stable (kept T rec v p)
+    kept-stable : (v : Val) (p : Path) → Stable (kept T v p)
     unfolding kept
     kept-stable absent p = search stable
     kept-stable (val j) p = search stable
@@ -386,9 +386,9 @@ module _ (T : Tables) where
     unfolding completeItem
     item-stable ty skip g args p = kept-stable absent p
     item-stable ty error g args p = search stable
-    item-stable ty (leaf j) g args p = orNull-stable _ (value-stable ty (leaf j) g args p)
-    item-stable ty (list rows) g args p = orNull-stable _ (value-stable ty (list rows) g args p)
-    item-stable ty (object' row) g args p = orNull-stable _ (value-stable ty (object' row) g args p)
+    item-stable ty (leaf j) g args p = nullUnless-stable _ (value-stable ty (leaf j) g args p)
+    item-stable ty (list rows) g args p = nullUnless-stable _ (value-stable ty (list rows) g args p)
+    item-stable ty (object' row) g args p = nullUnless-stable _ (value-stable ty (object' row) g args p)
 
     typename-stable : (type : ℕ) (g : Group) (p : Path) → Stable (executeTypename T rec type g p)
     unfolding executeTypename
@@ -396,7 +396,7 @@ module _ (T : Tables) where
 
     defined-stable : (f answer : ℕ) (g : Group) (given : Range) (p : Path) → Stable (executeDefined T rec f answer g given p)
     unfolding executeDefined
-    defined-stable f answer g given p = search (stable, orNull-stable, arguments-stable, takeAnswer-stable, value-stable)
+    defined-stable f answer g given p = search (stable, nullUnless-stable, arguments-stable, takeAnswer-stable, value-stable)
 
     field-stable : (type answer : ℕ) (g : Group) (d : Option Definition) (p : Path) → Stable (executeField T rec type answer g d p)
     unfolding executeField

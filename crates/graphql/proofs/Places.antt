@@ -110,6 +110,7 @@ module _ (T : Tables) where
   unfolding placeOfPath
   at-place p i r = ap (λ (q : Place). q ++ r) (path-append p (index i ∷ [])) ∙ append-assoc (placeOfPath T p) (position i ∷ []) r
 
+  -- what is said of a group's value, and of an item's, in what stands at `p`
   abbrev pub InGroup : Path → Group → Val → Log → Type 0
   InGroup p g = FieldAt (placeOfPath T (p ++ (name (g .key) ∷ [])))
 
@@ -117,7 +118,7 @@ module _ (T : Tables) where
   InList p ia = PresentAt (placeOfPath T (p ++ (index (ia .0) ∷ [])))
 
   member-hit : (rec : Task → Path → M Val) (p : Path) (gs : List Group) (vs : List Val) (w : Log) → NoneSkipped w → Each (InGroup p) gs vs w
-      → {k : List ℕ} {j : Json} → MemberAt (members (keys T rec gs) vs) k j → (r : Place) → NullAt j r → Hit (placeOfPath T p ++ (under k ∷ r)) w
+      → {k : List ℕ} {j : Json} → MemberAt (members (keys T gs) vs) k j → (r : Place) → NullAt j r → Hit (placeOfPath T p ++ (under k ∷ r)) w
   unfolding members keys
   member-hit rec p [] vs w n h x r s = elim x [ ]
   member-hit rec p (g ∷ gs) [] w n h x r s = elim x [ ]
@@ -136,7 +137,7 @@ module _ (T : Tables) where
   item-hit p i (a ∷ rows) (val j ∷ vs) w n h (later x) r s = item-hit p (suc i) rows vs w n (h .1) x r s
 
   pub object-hit : (rec : Task → Path → M Val) (p : Path) (gs : List Group) (vs : List Val) (w : Log) → NoneSkipped w → Each (InGroup p) gs vs w
-      → (r : Place) → NullAt (object (members (keys T rec gs) vs)) r → Hit (placeOfPath T p ++ r) w
+      → (r : Place) → NullAt (object (members (keys T gs) vs)) r → Hit (placeOfPath T p ++ r) w
   object-hit rec p gs vs w n h r (inObject x s) = member-hit rec p gs vs w n h x _ s
 
   pub array-hit : (p : Path) (rows : List ℕ) (vs : List Val) (w : Log) → NoneSkipped w → Each (InList p) (numbered 0 rows) vs w

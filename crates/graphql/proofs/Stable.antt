@@ -14,7 +14,7 @@ use Rattle.graphql.specs.Demand3.{NoneGivenUp}
 -- ---- Logs
 
 abbrev pub Logs : Log → Log → Type 0
-Logs u w = NoneGivenUp u → NoneGivenUp w → Perm u w
+Logs u w = NoneGivenUp u → Perm u w
 
 none-left : (u w : Log) → NoneGivenUp (u ++ w) → NoneGivenUp u
 none-left u w h = record { none-at = λ p m. h .none-at p (mem-append-left w m) }
@@ -22,12 +22,11 @@ none-left u w h = record { none-at = λ p m. h .none-at p (mem-append-left w m) 
 none-right : (u w : Log) → NoneGivenUp (u ++ w) → NoneGivenUp w
 none-right u w h = record { none-at = λ p m. h .none-at p (mem-append-right u m) }
 
-none-perm : {u w : Log} → NoneGivenUp u → Perm u w → NoneGivenUp w
+pub none-perm : {u w : Log} → NoneGivenUp u → Perm u w → NoneGivenUp w
 none-perm h q = record { none-at = λ p m. h .none-at p (Perm·subset (Perm·symm q) (givenUp p) m) }
 
 logs-append : (u u′ w w′ : Log) → Logs u u′ → Logs w w′ → Logs (u ++ w) (u′ ++ w′)
-logs-append u u′ w w′ h k c c′ =
-    Perm·append (h (none-left u w c) (none-left u′ w′ c′)) (k (none-right u w c) (none-right u′ w′ c′))
+logs-append u u′ w w′ h k c = Perm·append (h (none-left u w c)) (k (none-right u w c))
 
 -- ---- Two ends of runs
 
@@ -45,7 +44,7 @@ pub variable-refused : Refusal 5
 variable-refused = refusal
 
 -- Unless one is stopped, with a code that is not 0, they are both failed, as far up, or both done with one value, and where no selection
--- set was given up the logs are equal up to their order.
+-- set was given up in the one the logs are equal up to their order.
 pub data Agree {A : Type 0} : Res A → Res A → Type 0 where
   stop-l : {s : ℕ} {w : Log} {y : Res A} → Refusal s → Agree (stop s w) y
   stop-r : {s : ℕ} {w : Log} {x : Res A} → Refusal s → Agree x (stop s w)
@@ -58,7 +57,7 @@ pub record Stable {A : Type 0} (m : M A) : Type 0 where
 module _ {A : Type 0} where
   pub stable-pure : (a : A) → Stable (pure a)
   unfolding pure
-  stable-pure a = record { at = λ c d. both-done refl (λ _ _. Perm·rfl) }
+  stable-pure a = record { at = λ c d. both-done refl (λ _. Perm·rfl) }
 
   pub stable-halt : (s : ℕ) → Refusal s → Stable {A = A} (halt s)
   unfolding halt
@@ -66,7 +65,7 @@ module _ {A : Type 0} where
 
   pub stable-fail : (r : Reach) (e : Event) → Stable {A = A} (fail r e)
   unfolding fail
-  stable-fail r e = record { at = λ c d. both-failed (λ _ _. Perm·rfl) }
+  stable-fail r e = record { at = λ c d. both-failed (λ _. Perm·rfl) }
 
   agree-caught : (a : A) {x y : Res A} → Agree x y → Agree (caught a x) (caught a y)
   unfolding caught
@@ -105,7 +104,7 @@ module _ {A : Type 0} where
 
   pub stable-note : (e : Event) {m : M A} → Stable m → Stable (note e m)
   unfolding note
-  stable-note e h = record { at = λ c d. agree-after (λ _ _. Perm·rfl) (h .at c d) }
+  stable-note e h = record { at = λ c d. agree-after (λ _. Perm·rfl) (h .at c d) }
 
 module _ {A B : Type 0} where
   agree-onward : {k : A → M B} {x y : Res A} → Agree x y → ((a : A) → Stable (k a)) → Agree (onward x k) (onward y k)
@@ -225,12 +224,12 @@ module _ {A : Type 0} {m : M A} (h : Stable m) where
 
 module _ {G B : Type 0} {run : G → M B} (h : (g : G) → Stable (run g)) where
   same : {gs : List G} {vs vs′ : List B} {u u′ : Log} → Took run gs vs u → Took run gs vs′ u′ → (vs ≡ vs′) × Logs u u′
-  same nothing nothing = (refl, λ _ _. Perm·rfl)
+  same nothing nothing = (refl, λ _. Perm·rfl)
   same (one {g = g} {w = w} {ws = ws} {c = c} e t p) (one {w = w′} {ws = ws′} {c = c′} e′ t′ p′) =
       let a = done-done (subst₂ Agree e e′ (h g .at c c′)) in
       let r = same t t′ in (
         ap₂ _∷_ (a .0) (r .0),
-        λ k k′. Perm·trans p (Perm·trans (logs-append w w′ ws ws′ (a .1) (r .1) (none-perm k p) (none-perm k′ p′)) (Perm·symm p′)),
+        λ k. Perm·trans p (Perm·trans (logs-append w w′ ws ws′ (a .1) (r .1) (none-perm k p)) (Perm·symm p′)),
       )
 
   clash : {gs : List G} {vs : List B} {u w : Log} → Broke run w gs → Took run gs vs u → ⊥
@@ -241,7 +240,7 @@ module _ {G B : Type 0} {run : G → M B} (h : (g : G) → Stable (run g)) where
   unfolding marked
   agree-fates p (f-stop {g = g} e) f = stop-l (stable-stop (h g) e)
   agree-fates p (f-failed b) (f-stop {g = g} e) = stop-r (stable-stop (h g) e)
-  agree-fates p (f-failed b) (f-failed b′) = both-failed (λ k _. absurd (k .none-at p mem-cons-self))
+  agree-fates p (f-failed b) (f-failed b′) = both-failed (λ k. absurd (k .none-at p mem-cons-self))
   agree-fates p (f-failed b) (f-done t) = absurd (clash b t)
   agree-fates p (f-done t) (f-stop {g = g} e) = stop-r (stable-stop (h g) e)
   agree-fates p (f-done t) (f-failed b) = absurd (clash b t)

@@ -1,4 +1,4 @@
--- CoerceArgumentValues (October 2021, section 6.4.1) and the input coercion of literals (section 3.12), as the Rust reads them:
+-- CoerceArgumentValues (October 2021, section 6.4.1) and the input coercion of literals (sections 3.5 and 3.9 to 3.12), as the Rust reads them:
 -- "Arguments as the Rust's."
 use mathlib.Core.List.{List, [], _∷_, _++_}
 use mathlib.Core.Bool.{Bool, true, false, not, cond, _&&_}
@@ -23,7 +23,7 @@ use Rattle.rows.specs.declared.json.Node.the-variants as node
 use Rattle.rows.specs.declared.json.Literal.{Literal}
 use Rattle.rows.specs.declared.json.Literal.the-variants as literal
 use Rattle.tables.specs.Tables.{Tables}
-use Rattle.graphql.specs.Outcome.{tooFar, variableInLiteral}
+use Rattle.graphql.specs.Outcome.{tooFar, variableInLiteral, mostOpen}
 use Rattle.graphql.specs.Run.{Path, here, M, pure, halt, fail, when, _>>=_, inOrder}
 use Rattle.graphql.specs.Json.{Json, null, bool, natural, negative, float, string, array, object, Items, noItem, item, Members, noMember, member, Val, absent, val, members}
 use Rattle.graphql.specs.Errors.{errorOf, nullArgument, innerNull, nullVariable, missingVariable, undefinedInputType, unknownKey, missingInputField, cannotCoerce, missingArgument}
@@ -173,7 +173,8 @@ module _ (T : Tables) where
     js ← inOrder (λ row. inside inner row) rows
     pure (array (allItems js))
 
-  -- An input field (section 3.10): as it is given, by its default, or missing. `row` is the whole object literal.
+  -- An input field (section 3.10): as it is given, by its default, or missing. A field given as an absent variable is given: it comes to
+  -- null even over its default, a listed difference (October 2021 takes the default, or leaves the key out). `row` is the whole object literal.
   unfoldable pub inputField : (inside : ℕ → ℕ → M Json) (parts : ℕ → M Json) → Path → (row field : ℕ) → Option ℕ → Optional → M Val
   inputField inside parts p row field (some given) default = do
     j ← inside (fieldAt (T .fields) field .ty) given
@@ -224,6 +225,8 @@ module _ (T : Tables) where
   coerceNamed inside parts p row l none = failAt undefinedInputType row p
   coerceNamed inside parts p row l (some type) = coerceAt inside parts p row type l (typeOf T type .kind)
 
+  -- At a list type every item is coerced at the inner type, and there wrapped anew: `[[Int]]` given `[1,2]` is `[[1],[2]]`, a listed
+  -- difference (October 2021 has an error).
   unfoldable pub coerceBy : Option (ℕ → ℕ → M Json) → Option (ℕ → M Json) → Path → ℕ → Literal → TypeRef → M Json
   coerceBy inside parts p row l (ref.Named name nullable) = coerceNamed inside parts p row l (typeNamed T name)
   coerceBy inside parts p row l (ref.ListOf inner nullable) = coerceItems inside inner (itemsOf row l)
@@ -256,7 +259,7 @@ module _ (T : Tables) where
   -- An argument that is not given, or given as an absent variable: its default, or missing.
   unfoldable pub defaultArgument : Path → ℕ → Optional → M Arguments
   defaultArgument p argument (optional.Row default) = do
-    j ← partByPart 32 default
+    j ← partByPart mostOpen default
     pure ((argumentAt (T .arguments) argument .name, j) ∷ [])
   defaultArgument p argument optional.Absent =
       when (nonNull T (argumentAt (T .arguments) argument .ty))
@@ -275,7 +278,7 @@ module _ (T : Tables) where
 
   unfoldable pub literalArgument : Path → (argument row : ℕ) → M Arguments
   literalArgument p argument row = do
-    j ← coerceValue 32 p (argumentAt (T .arguments) argument .ty) row
+    j ← coerceValue mostOpen p (argumentAt (T .arguments) argument .ty) row
     pure ((argumentAt (T .arguments) argument .name, j) ∷ [])
 
   unfoldable pub givenArgument : Path → (argument row : ℕ) → Literal → M Arguments

@@ -18,7 +18,7 @@ use Rattle.rows.specs.declared.document.Selection.{Selection}
 use Rattle.rows.specs.declared.json.Node.{Node}
 use Rattle.rows.specs.declared.json.Node.the-variants as node
 use Rattle.tables.specs.Tables.{Tables}
-use Rattle.graphql.specs.Outcome.{tooFar, tooManyFields}
+use Rattle.graphql.specs.Outcome.{tooFar, tooManyFields, mostOpen, mostFields}
 use Rattle.graphql.specs.Run.{M, pure, halt, when, _>>=_}
 use Rattle.graphql.specs.Lookup.{typeNamed, typeOf, lists, fragmentNamed, variableNamed, selectionsOf, find, any}
 
@@ -106,12 +106,11 @@ module _ (T : Tables) where
   -- Code 4: "a 129th field is collected for one set".
   unfoldable pub collectField : ℕ → ℕ → Collected → M Collected
   collectField key row c =
-      when (eqb (c .count) 128) (halt tooManyFields)
+      when (eqb (c .count) mostFields) (halt tooManyFields)
       (pure (record { visited = c .visited; groups = grouped key row (c .groups); count = suc (c .count) }))
 
-  -- `open` collects the selections of a fragment's set, one more fragment being open.
+  -- `open'` collects the selections of a fragment's set, one more fragment being open.
   module _ (open' : ℕ → ℕ → Collected → M Collected) (object : ℕ) where
-    -- "A spread is marked visited after that test and before lookup and type test."
     unfoldable pub enterFragment : Option ℕ → Collected → M Collected
     enterFragment none c = pure c
     enterFragment (some f) c =
@@ -119,6 +118,7 @@ module _ (T : Tables) where
         (open' object (fragmentAt (T .fragments) f .set) c)
         (pure c)
 
+    -- "A spread is marked visited after that test and before lookup and type test."
     unfoldable pub spread : ℕ → Collected → M Collected
     spread n c = when (any (λ v. eqb v n) (c .visited)) (pure c) (enterFragment (fragmentNamed T n) (visit n c))
 
@@ -143,5 +143,5 @@ module _ (T : Tables) where
   -- the groups of a selection set
   unfoldable pub collect : ℕ → List ℕ → M (List Group)
   collect object rows = do
-    c ← collectFields (λ o s d. collectWithin 32 o s d) object rows nothing
+    c ← collectFields (λ o s d. collectWithin mostOpen o s d) object rows nothing
     pure (c .groups)

@@ -18,7 +18,7 @@ use Rattle.rows.specs.declared.document.FieldSelection.{FieldSelection}
 use Rattle.rows.specs.declared.answers.Answer.{Answer}
 use Rattle.rows.specs.declared.answers.Answer.the-variants as answer
 use Rattle.tables.specs.Tables.{Tables}
-use Rattle.graphql.specs.Outcome.{tooFar}
+use Rattle.graphql.specs.Outcome.{tooFar, mostOpen, mostSegments}
 use Rattle.graphql.specs.Run.{Path, Segment, name, index, Event, skipped, Reach, here, pastList, M, pure, halt, fail, orElse, passed, when, note, _>>=_, anyOrder, inOrder}
 use Rattle.graphql.specs.Json.{Json, null, bool, natural, negative, float, string, array, object, Val, absent, val, items, members}
 use Rattle.graphql.specs.Errors.{errorOf, resolver, nullForNonNull, listTypeWithoutList, listForNonListType, undefinedType, inputObjectType, objectForLeafType, objectTypeUnknown, notInUnion, notImplementing, otherObjectType, leafForComposite, notAnEnumValue, intOverflow, leafOfAnotherKind}
@@ -151,22 +151,23 @@ module _ (T : Tables) where
   unfoldable pub fieldError : {A : Type 0} → ℕ → Group → Path → M A
   fieldError code g p = fail here (errorOf code (fieldPlace g) 0 0 p)
 
-  unfoldable pub orNull : Bool → M Val → M Val
-  orNull true m = m
-  orNull false m = orElse (val (null false)) m
+  -- null where `m` fails, unless the place is non-null
+  unfoldable pub nullUnless : Bool → M Val → M Val
+  nullUnless true m = m
+  nullUnless false m = orElse (val (null false)) m
 
   -- ---- The answer (ResolveFieldValue, section 6.4.2)
 
   -- "A leaf's or echo's containers count as it is taken, ahead of its type". An echo without its argument is an error.
   unfoldable pub echoed : Option Json → M Resolved
   echoed none = pure error
-  echoed (some j) = when (withinContainers 32 j) (pure (leaf j)) (halt tooFar)
+  echoed (some j) = when (withinContainers mostOpen j) (pure (leaf j)) (halt tooFar)
 
   unfoldable pub take : Arguments → Answer → ℕ → M Resolved
   take args answer.Skip row = pure skip
   take args answer.Error row = pure error
   take args (answer.Leaf node) row = do
-    j ← nodeValue T 32 node
+    j ← nodeValue T mostOpen node
     pure (leaf j)
   take args (answer.List rows) row = pure (list (rowsIn rows))
   take args (answer.Object type fields) row = pure (object' row)
@@ -255,21 +256,32 @@ module _ (T : Tables) where
   objectType type kind.InputObject n g p = fieldError inputObjectType g p
   objectType type kind.Unknown n g p = fieldError undefinedType g p
 
+  -- ---- The definition of a field, and what a field row gives
+
+  unfoldable pub definitionOf : (type n : ℕ) → Option Definition
+  definitionOf type n =
+      let own = elim (fieldNamed T type n) as (λ o. Option Definition) [ none ↦ none | some f ↦ some (defined f) ] in
+      cond (eqb n 0) (some typename) own
+
+  unfoldable pub keys : List Group → List (List ℕ)
+  keys [] = []
+  keys (g ∷ gs) = bytesOf T (g .key) ∷ keys gs
+
+  unfoldable pub givenOf : Option FieldSelection → Range
+  givenOf none = record { first = 0; count = 0 }
+  givenOf (some f) = f .given
+
+  -- a skipped item is noted
+  unfoldable pub kept : Val → Path → M Val
+  kept absent p = note (skipped p) (pure absent)
+  kept (val j) p = pure (val j)
+
   -- ---- The walk: `rec` does a task one level down
   module _ (rec : Task → Path → M Val) where
-    unfoldable pub definitionOf : (type n : ℕ) → Option Definition
-    definitionOf type n =
-        let own = elim (fieldNamed T type n) as (λ o. Option Definition) [ none ↦ none | some f ↦ some (defined f) ] in
-        cond (eqb n 0) (some typename) own
-
     -- "A group whose first field isn't defined on the object is left out."
     unfoldable pub executeGroup : (type answer : ℕ) → Path → Group → Option Definition → M Val
     executeGroup type answer p g none = pure absent
     executeGroup type answer p g (some d) = rec (field type answer g) (p ++ (name (g .key) ∷ []))
-
-    unfoldable pub keys : List Group → List (List ℕ)
-    keys [] = []
-    keys (g ∷ gs) = bytesOf T (g .key) ∷ keys gs
 
     -- ExecuteSelectionSet(selectionSet, objectType, objectValue, variableValues)
     unfoldable pub executeSelectionSet : (type answer : ℕ) → List ℕ → Path → M Val
@@ -278,9 +290,10 @@ module _ (T : Tables) where
       vs ← anyOrder (λ g. executeGroup type answer p g (definitionOf type (fieldName g))) p groups
       pure (val (object (members (keys groups) vs)))
 
-    -- CompleteValue of a list: an item that fails is null where items may be, otherwise the list is where it may be
+    -- CompleteValue of a list. An item that fails was nulled in `completeItem` where items may be null; here the list is where it may be,
+    -- and an error answer has passed it.
     unfoldable pub completeListAt : (nullable : Bool) (inner : ℕ) → List ℕ → Group → Arguments → Path → M Val
-    completeListAt nullable inner rows g args p = passed (orNull (not nullable) (do
+    completeListAt nullable inner rows g args p = passed (nullUnless (not nullable) (do
       vs ← inOrder (λ ia. rec (item inner (ia .1) g args) (p ++ (index (ia .0) ∷ []))) (numbered 0 rows)
       pure (val (array (items vs)))))
 
@@ -323,33 +336,27 @@ module _ (T : Tables) where
     completeValue ty (list rows) g args p = completeListValue (refOf T ty) rows g args p
     completeValue ty (object' row) g args p = completeSingle (refOf T ty) (object' row) g p
 
-    -- an item: "An error answer inside a list fails the list itself"; "A skipped item is dropped and still counted in later indices."
-    unfoldable pub kept : Val → Path → M Val
-    kept absent p = note (skipped p) (pure absent)
-    kept (val j) p = pure (val j)
-
+    -- an item: "An error answer inside a list fails the list itself" (a listed difference: the specification nulls the item);
+    -- "A skipped item is dropped and still counted in later indices."
     unfoldable pub completeItem : (ty : ℕ) → Resolved → Group → Arguments → Path → M Val
     completeItem ty skip g args p = kept absent p
     completeItem ty error g args p = fail pastList (errorOf resolver (fieldPlace g) 0 0 p)
-    completeItem ty (leaf j) g args p = orNull (nonNull T ty) (completeValue ty (leaf j) g args p)
-    completeItem ty (list rows) g args p = orNull (nonNull T ty) (completeValue ty (list rows) g args p)
-    completeItem ty (object' row) g args p = orNull (nonNull T ty) (completeValue ty (object' row) g args p)
+    completeItem ty (leaf j) g args p = nullUnless (nonNull T ty) (completeValue ty (leaf j) g args p)
+    completeItem ty (list rows) g args p = nullUnless (nonNull T ty) (completeValue ty (list rows) g args p)
+    completeItem ty (object' row) g args p = nullUnless (nonNull T ty) (completeValue ty (object' row) g args p)
+
+    -- `__typename` "answers the object type's name, and is completed against its row's attached type"; its own type is non-null
+    unfoldable pub executeTypename : ℕ → Group → Path → M Val
+    executeTypename type g p = completeValue (attachedType g) (leaf (string (bytesOf T (typeOf T type .name)))) g [] p
 
     -- ExecuteField(objectType, objectValue, fieldType, fields, variableValues): "coerces arguments by the object's own definition, then
     -- takes the answer .., then completes against the attached type of the first field; a failure becomes null if the object's own type
     -- is nullable and otherwise goes up". The attached type where the specification uses the object's own is a listed difference.
-    unfoldable pub executeTypename : ℕ → Group → Path → M Val
-    executeTypename type g p = completeValue (attachedType g) (leaf (string (bytesOf T (typeOf T type .name)))) g [] p
-
     unfoldable pub executeDefined : (f answer : ℕ) → Group → Range → Path → M Val
-    executeDefined f answer g given p = orNull (nonNull T (fieldAt (T .fields) f .ty)) (do
+    executeDefined f answer g given p = nullUnless (nonNull T (fieldAt (T .fields) f .ty)) (do
       args ← coerceArgumentValues T p (fieldAt (T .fields) f .arguments) given
       r ← takeAnswer args (fieldAnswer T answer (fieldName g))
       completeValue (attachedType g) r g args p)
-
-    unfoldable pub givenOf : Option FieldSelection → Range
-    givenOf none = record { first = 0; count = 0 }
-    givenOf (some f) = f .given
 
     unfoldable pub executeField : (type answer : ℕ) → Group → Option Definition → Path → M Val
     executeField type answer g none p = pure absent
@@ -369,4 +376,4 @@ module _ (T : Tables) where
 
   -- a whole walk: "a run starts from the root type and doesn't look at that answer's type name"
   unfoldable pub execute : M Val
-  execute = executeSelectionSet (run 32) (T .root) 0 (selectionsOf T 0) []
+  execute = executeSelectionSet (run mostSegments) (T .root) 0 (selectionsOf T 0) []

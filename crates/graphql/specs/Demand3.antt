@@ -115,6 +115,12 @@ RecordsKept = (T : Tables) (text errors text' errors' : ℕ) (c c' : Choices)
     → NoneGivenUp (logOf (execute T c)) → NoneGivenUp (logOf (execute T c'))
     → Perm (records (logOf (execute T c))) (records (logOf (execute T c')))
 
+-- It is enough to look at one of the runs: if no selection set is given up in it, none is in the other.
+abbrev pub NoneInEither : Type 0
+NoneInEither = (T : Tables) (text errors text' errors' : ℕ) (c c' : Choices)
+    → report T text errors c .code ≡ 0 → report T text' errors' c' .code ≡ 0
+    → NoneGivenUp (logOf (execute T c)) → NoneGivenUp (logOf (execute T c'))
+
 -- (c) If no list item is skipped in a run, every null that no resolver answered has in that run an error record at its place or below.
 abbrev pub NullsExplained : Type 0
 NullsExplained = (T : Tables) (c : Choices) (tree : Json) (place : Place) → dataOf (execute T c) ≡ some tree

@@ -12,7 +12,7 @@ use Rattle.rows.specs.declared.document.Selected.the-variants as selected
 use Rattle.rows.specs.declared.document.FieldSelection.{FieldSelection}
 use Rattle.tables.specs.Tables.{Tables}
 use Rattle.tables.specs.Lawful.{lawful}
-use Rattle.graphql.specs.Outcome.{codeOf}
+use Rattle.graphql.specs.Outcome.{codeOf, mostOpen}
 use Rattle.graphql.specs.declared.outcome.Outcome.the-variants.{Answered, Unlawful, TooFar, TooDeep}
 use Rattle.graphql.specs.Lookup.{fragmentNamed, selectionsOf}
 
@@ -36,7 +36,7 @@ andThen (tooDeep place) k = tooDeep place
 andThen (depth d rises) k = k d rises
 
 module _ (T : Tables) where
-  -- `open` checks a set at a depth, one more set being open
+  -- `open'` checks a set at a depth, one more set being open
   module _ (open' : ℕ → ℕ → Rises → Checked) (sofar : ℕ) where
     unfoldable pub childSet : ℕ → FieldSelection → Rises → Checked
     childSet d f rises = let into = open' (f .set) d rises in cond (eqb (f .set) 0) (depth d rises) into
@@ -93,5 +93,5 @@ answered (depth d rises) = record { code = codeOf Answered; depth' = d; place = 
 
 unfoldable pub depthReport : Tables → DepthReport
 depthReport T =
-    let checked = answered (checkSet T 32 0 0 []) in
+    let checked = answered (checkSet T mostOpen 0 0 []) in
     cond (lawful T) checked (record { code = codeOf Unlawful; depth' = 0; place = 0 })

@@ -85,7 +85,7 @@ placeOf code =
     (cond (leb innerNull code && leb code cannotCoerce) Literal
     FirstField)
 
--- the place of an error of this code, where its first field, its argument's definition and its literal stand at these places
+-- the place of an error of this kind, where its first field, its argument's definition and its literal stand at these places
 unfoldable pub placeAmong : PlaceKind → (field definition literal : ℕ) → ℕ
 placeAmong FirstField field definition literal = field
 placeAmong ArgumentDefinition field definition literal = definition

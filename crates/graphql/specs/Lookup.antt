@@ -79,7 +79,7 @@ module _ (T : Tables) where
   unfoldable pub fragmentNamed : ℕ → Option ℕ
   fragmentNamed n = find (λ row. eqb (fragmentAt (T .fragments) row .name) n) (rowsFrom 0 (rowsOf (T .fragments) fragmentWidth))
 
-  -- the node that is the value of the variable of this name
+  -- the row of the value of the variable of this name
   unfoldable pub variableNamed : ℕ → Option ℕ
   variableNamed n = find (λ row. eqb (variableAt (T .variables) row .name) n) (rowsFrom 0 (rowsOf (T .variables) variableWidth))
 

@@ -23,3 +23,14 @@ tooManyFields = codeOf TooManyFields
 
 abbrev pub variableInLiteral : ℕ
 variableInLiteral = codeOf VariableInLiteral
+
+-- "a path over 32 segments, or 33 open containers .., 33 open fragments .., or 33 open sets"
+abbrev pub mostSegments : ℕ
+mostSegments = 32
+
+abbrev pub mostOpen : ℕ
+mostOpen = 32
+
+-- "a 129th field"
+abbrev pub mostFields : ℕ
+mostFields = 128

@@ -84,3 +84,7 @@ report T text errors choices =
     let walked = ended text errors (execute T choices) in
     let allowed = cond (introspects T) (refused (codeOf AsksForSchema)) walked in
     cond (lawful T && lawfulBuffers text errors (length choices)) allowed (refused (codeOf Unlawful))
+
+-- "run in document order": with no choices each set takes its groups as they stand
+unfoldable pub reportInOrder : Tables → (text errors : ℕ) → Report
+reportInOrder T text errors = report T text errors []

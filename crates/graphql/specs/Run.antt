@@ -80,7 +80,7 @@ module _ {A : Type 0} where
   marked e (failed r w c) = failed here (e ∷ w) c
   marked e (done b w c) = done b w c
 
-  -- `m`, and where it fails `e` is logged
+  -- `m`, and where it fails `e` is logged before what it logged; the failure goes no further than any other
   unfoldable pub mark : Event → M A → M A
   mark e m c = marked e (m c)
 
