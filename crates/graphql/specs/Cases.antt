@@ -10,8 +10,18 @@ use Rattle.graphql.specs.Kit.{Kit, Case, Expected, named, named!, listOf
 -- one field `f` of Query, with these type references of which the last is its type, these nodes and these answers after the root's
 abbrev one : (ty : ℕ) → (refs nodes answers : List (List ℕ)) → Kit
 one ty refs nodes answers = record {
-  asked = 1; refs = refs; fields = field 13 ty ∷ []; arguments = []; sets = (0 ∷ 1 ∷ []) ∷ []; selections = select 0 0 13 13 ty ∷ [];
-  given = []; fragments = []; nodes = nodes; literals = []; variables = []; answers = objectAnswer 0 12 1 1 ∷ answers
+  asked = 1;
+  refs = refs;
+  fields = field 13 ty ∷ [];
+  arguments = [];
+  sets = (0 ∷ 1 ∷ []) ∷ [];
+  selections = select 0 0 13 13 ty ∷ [];
+  given = [];
+  fragments = [];
+  nodes = nodes;
+  literals = [];
+  variables = [];
+  answers = objectAnswer 0 12 1 1 ∷ answers;
 }
 
 abbrev error : ℕ → Path → Expected
@@ -55,8 +65,18 @@ G = answered "G" (one 0 (named 2 ∷ []) (wholeNumber 1 0 ∷ []) (leafOf 13 0 �
 -- two fields `f` and `g`, or `a` and `b`, of Query
 abbrev two : (n m ty : ℕ) → (refs selections nodes : List (List ℕ)) → (answers : List (List ℕ)) → Kit
 two n m ty refs selections nodes answers = record {
-  asked = 2; refs = refs; fields = field n ty ∷ field m ty ∷ []; arguments = []; sets = (0 ∷ 3 ∷ []) ∷ []; selections = selections;
-  given = []; fragments = []; nodes = nodes; literals = []; variables = []; answers = objectAnswer 0 12 1 2 ∷ answers
+  asked = 2;
+  refs = refs;
+  fields = field n ty ∷ field m ty ∷ [];
+  arguments = [];
+  sets = (0 ∷ 3 ∷ []) ∷ [];
+  selections = selections;
+  given = [];
+  fragments = [];
+  nodes = nodes;
+  literals = [];
+  variables = [];
+  answers = objectAnswer 0 12 1 2 ∷ answers;
 }
 
 -- H: `{x:f @skip(if:$v) y:g x:f}`, v absent, f 1, g 2, both Int
@@ -67,16 +87,35 @@ H = answered "H" (two 13 14 0 ints (select 22 0 13 17 0 ∷ select 0 0 14 18 0 �
 -- I: `{f @skip(if:true) @include(if:true)}`
 abbrev I : Case
 I = answered "I" (record {
-  asked = 1; refs = ints; fields = field 13 0 ∷ []; arguments = []; sets = (0 ∷ 1 ∷ []) ∷ []; selections = select 2 2 13 13 0 ∷ [];
-  given = []; fragments = []; nodes = []; literals = []; variables = []; answers = objectAnswer 0 12 1 0 ∷ []
+  asked = 1;
+  refs = ints;
+  fields = field 13 0 ∷ [];
+  arguments = [];
+  sets = (0 ∷ 1 ∷ []) ∷ [];
+  selections = select 2 2 13 13 0 ∷ [];
+  given = [];
+  fragments = [];
+  nodes = [];
+  literals = [];
+  variables = [];
+  answers = objectAnswer 0 12 1 0 ∷ [];
 }) "{}" []
 
 -- J, K: `{a b}`, `Int!`, both errors, K with choice 1
 abbrev both : Kit
 both = record {
-  asked = 2; refs = named! 1 ∷ []; fields = field 15 0 ∷ field 16 0 ∷ []; arguments = []; sets = (0 ∷ 2 ∷ []) ∷ [];
-  selections = select 0 0 15 15 0 ∷ select 0 0 16 16 0 ∷ []; given = []; fragments = []; nodes = []; literals = []; variables = [];
-  answers = objectAnswer 0 12 1 2 ∷ errs 15 ∷ errs 16 ∷ []
+  asked = 2;
+  refs = named! 1 ∷ [];
+  fields = field 15 0 ∷ field 16 0 ∷ [];
+  arguments = [];
+  sets = (0 ∷ 2 ∷ []) ∷ [];
+  selections = select 0 0 15 15 0 ∷ select 0 0 16 16 0 ∷ [];
+  given = [];
+  fragments = [];
+  nodes = [];
+  literals = [];
+  variables = [];
+  answers = objectAnswer 0 12 1 2 ∷ errs 15 ∷ errs 16 ∷ [];
 }
 
 abbrev J : Case
@@ -92,11 +131,18 @@ L = record { label = "L"; kit = one 0 ints (wholeNumber 1 0 ∷ []) (leafOf 13 0
 -- M: `[[Int]]` argument `[1,2]` echoed as a custom scalar
 abbrev M : Case
 M = answered "M" (record {
-  asked = 1; refs = named 1 ∷ listOf 0 ∷ listOf 1 ∷ named 20 ∷ []; fields = (13 ∷ 3 ∷ 0 ∷ 0 ∷ 0 ∷ 1 ∷ []) ∷ [];
-  arguments = (17 ∷ 2 ∷ 0 ∷ 0 ∷ []) ∷ []; sets = (0 ∷ 1 ∷ []) ∷ [];
-  selections = (0 ∷ 0 ∷ 0 ∷ 7 ∷ 13 ∷ 13 ∷ 0 ∷ 1 ∷ 0 ∷ 3 ∷ []) ∷ []; given = (17 ∷ 0 ∷ []) ∷ []; fragments = []; nodes = [];
-  literals = (7 ∷ 1 ∷ 2 ∷ 0 ∷ 0 ∷ []) ∷ (3 ∷ 1 ∷ 0 ∷ 0 ∷ 0 ∷ []) ∷ (3 ∷ 2 ∷ 0 ∷ 0 ∷ 0 ∷ []) ∷ []; variables = [];
-  answers = objectAnswer 0 12 1 1 ∷ echoes 13 17 ∷ []
+  asked = 1;
+  refs = named 1 ∷ listOf 0 ∷ listOf 1 ∷ named 20 ∷ [];
+  fields = (13 ∷ 3 ∷ 0 ∷ 0 ∷ 0 ∷ 1 ∷ []) ∷ [];
+  arguments = (17 ∷ 2 ∷ 0 ∷ 0 ∷ []) ∷ [];
+  sets = (0 ∷ 1 ∷ []) ∷ [];
+  selections = (0 ∷ 0 ∷ 0 ∷ 7 ∷ 13 ∷ 13 ∷ 0 ∷ 1 ∷ 0 ∷ 3 ∷ []) ∷ [];
+  given = (17 ∷ 0 ∷ []) ∷ [];
+  fragments = [];
+  nodes = [];
+  literals = (7 ∷ 1 ∷ 2 ∷ 0 ∷ 0 ∷ []) ∷ (3 ∷ 1 ∷ 0 ∷ 0 ∷ 0 ∷ []) ∷ (3 ∷ 2 ∷ 0 ∷ 0 ∷ 0 ∷ []) ∷ [];
+  variables = [];
+  answers = objectAnswer 0 12 1 1 ∷ echoes 13 17 ∷ [];
 }) "{\"f\":[[1],[2]]}" []
 
 -- N: `[Int]`, leaf 5

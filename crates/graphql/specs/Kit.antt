@@ -72,7 +72,7 @@ tablesOf k = record {
   literals = words (k .literals);
   variables = words (k .variables);
   answers = words (k .answers);
-  root = 0
+  root = 0;
 }
 
 -- ---- rows

@@ -15,28 +15,51 @@ pub struct ErrorCode {
 
 impl ErrorCode {
     pub const RESOLVER: u32 = 1;
+
     pub const NULL_FOR_NON_NULL: u32 = 2;
+
     pub const LIST_TYPE_WITHOUT_LIST: u32 = 3;
+
     pub const LIST_FOR_NON_LIST_TYPE: u32 = 4;
+
     pub const UNDEFINED_TYPE: u32 = 5;
+
     pub const INPUT_OBJECT_TYPE: u32 = 6;
+
     pub const OBJECT_FOR_LEAF_TYPE: u32 = 7;
+
     pub const OBJECT_TYPE_UNKNOWN: u32 = 8;
+
     pub const NOT_IN_UNION: u32 = 9;
+
     pub const NOT_IMPLEMENTING: u32 = 10;
+
     pub const OTHER_OBJECT_TYPE: u32 = 11;
+
     pub const LEAF_FOR_COMPOSITE: u32 = 12;
+
     pub const NOT_AN_ENUM_VALUE: u32 = 13;
+
     pub const INT_OVERFLOW: u32 = 14;
+
     pub const LEAF_OF_ANOTHER_KIND: u32 = 15;
+
     pub const NULL_ARGUMENT: u32 = 16;
+
     pub const INNER_NULL: u32 = 17;
+
     pub const NULL_VARIABLE: u32 = 18;
+
     pub const MISSING_VARIABLE: u32 = 19;
+
     pub const UNDEFINED_INPUT_TYPE: u32 = 20;
+
     pub const UNKNOWN_KEY: u32 = 21;
+
     pub const MISSING_INPUT_FIELD: u32 = 22;
+
     pub const CANNOT_COERCE: u32 = 23;
+
     pub const MISSING_ARGUMENT: u32 = 24;
 
     // "Place: argument definition for 16 and 24, the literal for 17 to 23, else the first field."

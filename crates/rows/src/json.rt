@@ -95,7 +95,7 @@ pub fn node_key(nodes: &[u32], row: usize) -> Text
     }
 }
 
-pub fn is_node_row(nodes: &[u32], row: u32) -> bool
+pub(crate) fn is_node_row(nodes: &[u32], row: u32) -> bool
     ensures { λ r. ⌜ r ≡ isNodeRow (now (nodes .entry)) row ⌝ }
 {
     is_row(nodes, NODE_WIDTH, row)
@@ -243,7 +243,7 @@ pub fn literal_key(literals: &[u32], row: u32) -> u32
     cell(literals, LITERAL_WIDTH, row as usize, 4)
 }
 
-pub fn is_literal_row(literals: &[u32], row: u32) -> bool
+pub(crate) fn is_literal_row(literals: &[u32], row: u32) -> bool
     ensures { λ r. ⌜ r ≡ isLiteralRow (now (literals .entry)) row ⌝ }
 {
     is_row(literals, LITERAL_WIDTH, row)

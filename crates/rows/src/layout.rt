@@ -26,7 +26,7 @@ pub fn row_count(t: &[u32], width: usize) -> u32
 }
 
 // The word in a column of a row; 0 where the table ends before it.
-pub fn cell(t: &[u32], width: usize, row: usize, column: usize) -> u32
+pub(crate) fn cell(t: &[u32], width: usize, row: usize, column: usize) -> u32
     requires { ⌜ (row < 2 ^ 40) × (width ≤ 16) × (column < 16) ⌝ }
     ensures { λ r. ⌜ r ≡ Rows·cell (now (t .entry)) width row column ⌝ }
 {
@@ -34,7 +34,7 @@ pub fn cell(t: &[u32], width: usize, row: usize, column: usize) -> u32
     if at < t.len() { t[at] } else { 0 }
 }
 
-pub fn optional_row(word: u32) -> Optional
+pub(crate) fn optional_row(word: u32) -> Optional
     ensures { λ r. ⌜ r ≡ optionOf word ⌝ }
 {
     if word == 0 {
@@ -51,14 +51,14 @@ pub fn both(a: bool, b: bool) -> bool
     a & b
 }
 
-pub fn is_row(t: &[u32], width: usize, row: u32) -> bool
+pub(crate) fn is_row(t: &[u32], width: usize, row: u32) -> bool
     requires { ⌜ 0 < width ⌝ }
     ensures { λ r. ⌜ r ≡ isRow (now (t .entry)) width row ⌝ }
 {
     row < row_count(t, width)
 }
 
-pub fn is_row_or_none(t: &[u32], width: usize, row: Optional) -> bool
+pub(crate) fn is_row_or_none(t: &[u32], width: usize, row: Optional) -> bool
     requires { ⌜ 0 < width ⌝ }
     ensures { λ r. ⌜ r ≡ rowOrNone (now (t .entry)) width row ⌝ }
 {
@@ -68,7 +68,7 @@ pub fn is_row_or_none(t: &[u32], width: usize, row: Optional) -> bool
     }
 }
 
-pub fn is_within(t: &[u32], width: usize, rows: Range) -> bool
+pub(crate) fn is_within(t: &[u32], width: usize, rows: Range) -> bool
     requires { ⌜ 0 < width ⌝ }
     ensures { λ r. ⌜ r ≡ within (now (t .entry)) width rows ⌝ }
 {
@@ -76,14 +76,14 @@ pub fn is_within(t: &[u32], width: usize, rows: Range) -> bool
     end <= row_count(t, width) as u64
 }
 
-pub fn either(a: bool, b: bool) -> bool
+pub(crate) fn either(a: bool, b: bool) -> bool
     ensures { λ r. ⌜ r ≡ (a || b) ⌝ }
 {
     a | b
 }
 
 // The rows are there, and all come after `row`.
-pub fn is_later(t: &[u32], width: usize, row: u32, rows: Range) -> bool
+pub(crate) fn is_later(t: &[u32], width: usize, row: u32, rows: Range) -> bool
     requires { ⌜ 0 < width ⌝ }
     ensures { λ r. ⌜ r ≡ later (now (t .entry)) width row rows ⌝ }
 {
@@ -101,7 +101,7 @@ pub fn is_counted(t: &[u32], width: usize, least: usize, most: usize) -> bool
 }
 
 // The two rows have different words in the column.
-pub fn is_other(t: &[u32], width: usize, column: usize, one: usize, two: usize) -> bool
+pub(crate) fn is_other(t: &[u32], width: usize, column: usize, one: usize, two: usize) -> bool
     requires { ⌜ (width ≤ 16) × (column < 16) × (one < 2 ^ 40) × (two < 2 ^ 40) ⌝ }
     ensures { λ r. ⌜ r ≡ other (now (t .entry)) width column one two ⌝ }
 {
@@ -109,7 +109,7 @@ pub fn is_other(t: &[u32], width: usize, column: usize, one: usize, two: usize) 
 }
 
 // The word of row first + i is in the same column of none of the i rows from first on.
-pub fn is_new(t: &[u32], width: usize, column: usize, first: u32, i: u32) -> bool
+pub(crate) fn is_new(t: &[u32], width: usize, column: usize, first: u32, i: u32) -> bool
     requires { ⌜ (width ≤ 16) × (column < 16) ⌝ }
     ensures { λ r. ⌜ r ≡ isNew (now (t .entry)) width column first i ⌝ }
 {
@@ -126,7 +126,7 @@ pub fn is_new(t: &[u32], width: usize, column: usize, first: u32, i: u32) -> boo
 }
 
 // No two rows of the range have the same word in the column.
-pub fn is_distinct(t: &[u32], width: usize, column: usize, rows: Range) -> bool
+pub(crate) fn is_distinct(t: &[u32], width: usize, column: usize, rows: Range) -> bool
     requires { ⌜ (width ≤ 16) × (column < 16) ⌝ }
     ensures { λ r. ⌜ r ≡ distinct (now (t .entry)) width column rows ⌝ }
 {

@@ -29,7 +29,7 @@ pub fn name_text<'a>(pool: &'a [u8], names: &[u32], row: u32) -> &'a [u8]
     text_of(pool, name_at(names, row))
 }
 
-pub fn is_name_row(names: &[u32], row: u32) -> bool
+pub(crate) fn is_name_row(names: &[u32], row: u32) -> bool
     ensures { λ r. ⌜ r ≡ isNameRow (now (names .entry)) row ⌝ }
 {
     is_row(names, NAME_WIDTH, row)

@@ -106,7 +106,7 @@ pub fn type_ref_row(names: &[u32], type_refs: &[u32], row: u32) -> bool
     type_ref_is_lawful(names, row, type_ref_at(type_refs, row))
 }
 
-pub fn is_type_ref(type_refs: &[u32], row: u32) -> bool
+pub(crate) fn is_type_ref(type_refs: &[u32], row: u32) -> bool
     ensures { λ r. ⌜ r ≡ typed (now («type_refs» .entry)) row ⌝ }
 {
     is_row(type_refs, TYPE_REF_WIDTH, row)

@@ -26,14 +26,14 @@ pub fn text_of(pool: &[u8], text: Text) -> &[u8]
     }
 }
 
-pub fn is_in_pool(pool: &[u8], text: Text) -> bool
+pub(crate) fn is_in_pool(pool: &[u8], text: Text) -> bool
     ensures { λ r. ⌜ r ≡ inPool (now (pool .entry)) text ⌝ }
 {
     let end = (text.start as usize) + (text.len as usize);
     end <= pool.len()
 }
 
-pub fn is_string(pool: &[u8], text: Text) -> bool
+pub(crate) fn is_string(pool: &[u8], text: Text) -> bool
     ensures { λ r. ⌜ r ≡ isString (now (pool .entry)) text ⌝ }
 {
     both(
@@ -42,7 +42,7 @@ pub fn is_string(pool: &[u8], text: Text) -> bool
     )
 }
 
-pub fn is_float_text(pool: &[u8], text: Text) -> bool
+pub(crate) fn is_float_text(pool: &[u8], text: Text) -> bool
     ensures { λ r. ⌜ r ≡ isFloatText (now (pool .entry)) text ⌝ }
 {
     both(

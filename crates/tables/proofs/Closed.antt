@@ -38,7 +38,7 @@ module _ (pool names literals : List ℕ) (lawful : all (literalRow pool names l
   each-same p q row rows l h =
       let later = and-left (eqb (rows .count) 0 || ltb row (rows .first)) (leb (rows .first + rows .count) count) l in
       let end : rows .first + rows .count ≤ count =
-          leb-true (rows .first + rows .count) count (and-right (eqb (rows .count) 0 || ltb row (rows .first)) (leb (rows .first + rows .count) count) l) in
+      leb-true (rows .first + rows .count) count (and-right (eqb (rows .count) 0 || ltb row (rows .first)) (leb (rows .first + rows .count) count) l) in
       all-same (λ i. p (rows .first + i)) (λ i. q (rows .first + i)) (rows .count)
       (λ i m. let first : row < rows .first = later-first later (omega arith) in h (rows .first + i) (omega arith) (omega arith))
     where

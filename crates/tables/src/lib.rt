@@ -1,3 +1,4 @@
+// Which tables are lawful: the rules of document 01 by name, defaults without a variable, and the public entry `check::table_check`.
 pub mod check;
 mod defaults;
 pub mod rules;
