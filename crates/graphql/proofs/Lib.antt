@@ -1,3 +1,8 @@
+-- The worked runs by computation; then demand 3, from what two runs of one computation agree on to the statements.
+pub mod Computing
+pub mod Cases
+pub mod WorkedRuns
+pub mod WorkedDepths
 pub mod There
 pub mod Stable
 pub mod Order
@@ -7,4 +12,3 @@ pub mod Places
 pub mod Collected
 pub mod Nulls
 pub mod Demand3
-pub mod Cases

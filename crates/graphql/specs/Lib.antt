@@ -1,3 +1,4 @@
+-- What a run means, in reading order; then worked runs, and the statement that the order of work doesn't show.
 pub mod Run
 pub mod Json
 pub mod Depths
@@ -11,4 +12,9 @@ pub mod Report
 pub mod Depth
 pub mod Kit
 pub mod Cases
+pub mod WorkedErrors
+pub mod WorkedReadings
+pub mod WorkedLimits
+pub mod WorkedRuns
+pub mod WorkedDepths
 pub mod Demand3
