@@ -1,0 +1,26 @@
+-- The table check says whether the tables are lawful; where they are, the walk needs no more of them. Assumes nothing.
+use Rattle.tables.specs.Tables.{tables}
+use Rattle.introspection.proofs.Reports.{report-unlawful, report-walkable, report-checked}
+use borrow.Author.Needs.{needs}
+use Rattle.introspection.proofs.max_depth.depth_check.Statement.{statement}
+use Rattle.introspection.proofs.max_depth.depth_check.Tie as tie
+
+table-check-requires : tie.Need-table-check-requires
+table-check-requires c κs = search needs
+
+code-requires : tie.Need-code-requires
+code-requires c κs = search needs
+
+returns : tie.Need-returns
+returns c = report-unlawful _ (c .before .before .table-check .ensures) (c .before .if1 .taken) (c .code .ensures)
+
+depth-of-operation-requires : tie.Need-depth-of-operation-requires
+depth-of-operation-requires c κs = report-walkable (tables _ _ _ _ _ _ _ _ _ _ _ _ _ _ _ _) (c .before .table-check .ensures) (c .if1 .left)
+
+returns-2 : tie.Need-returns-2
+returns-2 c = report-checked _ (c .before .before .table-check .ensures) (c .before .if1 .left) (c .depth-of-operation .ensures)
+
+pub depth-check-spec : {M : Type 1} → statement M
+depth-check-spec =
+    tie.close
+    (tie.spec table-check-requires code-requires returns depth-of-operation-requires returns-2)

@@ -1,0 +1,2 @@
+// Checks on introspection queries, beside the Rust's `introspection`.
+pub mod max_depth;
