@@ -1,0 +1,49 @@
+// The public entries as C functions, for a static library. Each is a call of the entry that it is named after and promises
+// what that entry promises; nothing is asked of the caller but what C itself asks (include/ladlehedge.h). A slice is passed as
+// a pointer and then a length.
+ghost use mathlib.Core.Path.{_≡_};
+ghost use Rattle.tables.specs.Tables.{tables};
+ghost use Rattle.tables.specs.Lawful.{tableCode};
+use tables::check::table_check;
+
+// Whether the tables lent are lawful: 0, or 1 where a rule is broken.
+#[no_mangle]
+pub extern "C" fn ladlehedge_table_check(
+    pool: &[u8],
+    names: &[u32],
+    type_refs: &[u32],
+    types: &[u32],
+    members: &[u32],
+    fields: &[u32],
+    arguments: &[u32],
+    sets: &[u32],
+    selections: &[u32],
+    given: &[u32],
+    fragments: &[u32],
+    nodes: &[u32],
+    literals: &[u32],
+    variables: &[u32],
+    answers: &[u32],
+    root: u32,
+) -> u32
+    ensures { λ r. ⌜ r ≡ tableCode (tables (now (pool .entry)) (now (names .entry)) (now («type_refs» .entry)) (now (types .entry)) (now (members .entry)) (now (fields .entry)) (now (arguments .entry)) (now (sets .entry)) (now (selections .entry)) (now (given .entry)) (now (fragments .entry)) (now (nodes .entry)) (now (literals .entry)) (now (variables .entry)) (now (answers .entry)) root) ⌝ }
+{
+    table_check(
+        pool,
+        names,
+        type_refs,
+        types,
+        members,
+        fields,
+        arguments,
+        sets,
+        selections,
+        given,
+        fragments,
+        nodes,
+        literals,
+        variables,
+        answers,
+        root,
+    )
+}
