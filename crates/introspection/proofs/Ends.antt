@@ -1,5 +1,5 @@
 -- How a check ends: at once, as another does, or stopped on its way. Assumes nothing.
-use mathlib.Core.Path.{_≡_, refl, sym, _∙_}
+use mathlib.Core.Path.{_≡_, refl}
 use mathlib.Core.Logic.{⊎-elim, _⊎_}
 use mathlib.Core.List.{List, [], _∷_}
 use Prim.Native.Nat.{ℕ}
@@ -9,9 +9,9 @@ use denote.Enum.Declared.{tagOf}
 use Rattle.tables.specs.Tables.{Tables}
 use Rattle.graphql.specs.Depth.{Rises, andThen}
 use Rattle.graphql.specs.Depth as defined
-use Rattle.introspection.specs.MaxDepth.{said, Marked, Ends, Checks}
+use Rattle.introspection.specs.MaxDepth.{Marked, Ends, Checks}
 use Rattle.introspection.specs.declared.max_depth.Checked.{Checked}
-use Rattle.introspection.specs.declared.max_depth.Checked.the-variants.{TooManySets, TooDeep, Depth}
+use Rattle.introspection.specs.declared.max_depth.Checked.the-variants.{TooDeep, Depth}
 use Rattle.introspection.proofs.max_depth.Checked.{the-type}
 
 module _ (T : Tables) {marks : List ℕ} (x : Rises → defined.Checked) where

@@ -1,8 +1,8 @@
 -- A search through rows: how far it went, what it found, and where that lies. Assumes nothing.
-use mathlib.Core.Path.{_≡_, refl, sym, _∙_}
+use mathlib.Core.Path.{_≡_, refl, _∙_}
 use mathlib.Core.Bool.{Bool, true, false, cond}
 use mathlib.Core.List.{List, [], _∷_}
-use mathlib.Core.Option.{Option, none, some}
+use mathlib.Core.Option.{none, some}
 use Prim.Native.Nat.{ℕ, zero, suc, _+_, _-_, _≤_, _<_}
 use native.Mathlib.Nat.{sub-zero}
 use native.Mathlib.Numerals.{add-one}
@@ -18,9 +18,6 @@ use Rattle.graphql.specs.Lookup.{rowsFrom, find, fragmentNamed}
 use Rattle.introspection.specs.MaxDepth.{documentOf, rowOf}
 
 module _ (test : ℕ → Bool) where
-  pub find-begin : (n : ℕ) → find test (rowsFrom 0 n) ≡ find test (rowsFrom 0 (n - 0))
-  find-begin n = rw sub-zero
-
   -- the row that comes next does not pass
   pub find-next : (row n : ℕ) → row < n → test row ≡ false → find test (rowsFrom row (n - row)) ≡ find test (rowsFrom (row + 1) (n - (row + 1)))
   unfolding find rowsFrom

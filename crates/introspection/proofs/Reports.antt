@@ -1,5 +1,5 @@
 -- From how the walk ends to the report. Assumes nothing.
-use mathlib.Core.Path.{_≡_, refl, sym, _∙_}
+use mathlib.Core.Path.{_≡_, refl}
 use mathlib.Core.Bool.{Bool, true, false, cond}
 use mathlib.Core.List.{List, []}
 use Prim.Native.Nat.{ℕ}
@@ -9,7 +9,7 @@ use Rattle.tables.specs.Tables.{Tables}
 use Rattle.tables.specs.Lawful.{lawful, tableCode}
 use Rattle.graphql.specs.Outcome.{codeOf}
 use Rattle.graphql.specs.declared.outcome.Outcome.the-variants.{Unlawful}
-use Rattle.graphql.specs.Depth.{Rises, DepthReport, checkSet, answered, depthReport}
+use Rattle.graphql.specs.Depth.{Rises, checkSet, answered, depthReport}
 use Rattle.graphql.specs.Depth as defined
 use Rattle.introspection.specs.MaxDepth.{Answers, documentOf, said, meant, Checks, Walkable}
 use Rattle.introspection.specs.declared.max_depth.DepthAnswer.{DepthAnswer}

@@ -1,13 +1,13 @@
 -- The walk, way by way: what a function knows where it returns is what the definition says there. Assumes nothing.
-use mathlib.Core.Path.{_≡_, refl, sym, ap, _∙_}
+use mathlib.Core.Path.{_≡_, refl, sym, _∙_}
 use mathlib.Core.Bool.{Bool, true, false, not, _&&_}
-use mathlib.Core.List.{List, [], _∷_}
+use mathlib.Core.List.{List, []}
 use mathlib.Core.Option.{Option, none, some}
 use Prim.Native.Nat.{ℕ, zero, suc, _+_, _-_, _≤_, _<_, max}
-use native.Mathlib.Nat.{add-zero, sub-zero, add-assoc}
+use native.Mathlib.Nat.{add-zero, sub-zero}
 use native.Mathlib.Numerals.{add-one}
 use native.Mathlib.Omega.{arith}
-use lib.Dec.{eqb, leb, ltb}
+use lib.Dec.{leb}
 use lib.ListN.{length, getD, set, length-set}
 use borrow.Author.Tests.{eq-eqb, ne-eqb, le-leb, lt-leb, lt-ltb, le-ltb}
 use Rattle.rows.specs.Document.{setAt, selectionAt, fragmentAt}
@@ -21,9 +21,9 @@ use Rattle.rows.specs.declared.document.Fragment.{Fragment}
 use Rattle.rows.proofs.Every.{falsified, verified}
 use Rattle.tables.specs.Tables.{Tables}
 use Rattle.graphql.specs.Lookup.{rowsFrom, rowsIn, selectionsOf, fragmentNamed}
-use Rattle.graphql.specs.Depth.{Rises, riseOf, andThen, childSet, checkField, metAgain, remembered, checkFragment, checkSpread, checkSelected, checkSelections, checkSet}
+use Rattle.graphql.specs.Depth.{Rises, andThen, childSet, checkField, metAgain, remembered, checkFragment, checkSpread, checkSelected, checkSelections, checkSet}
 use Rattle.graphql.specs.Depth as defined
-use Rattle.introspection.specs.MaxDepth.{documentOf, rowOf, Marked, Checks, Ends, Walkable}
+use Rattle.introspection.specs.MaxDepth.{documentOf, rowOf, Marked, Checks, Walkable}
 use Rattle.introspection.specs.declared.max_depth.Checked.{Checked}
 use Rattle.introspection.specs.declared.max_depth.Checked.the-variants.{TooManySets, TooDeep, Depth}
 use Rattle.introspection.proofs.Ends.{level, refused, like, Stopped, stopped, came}

@@ -1,8 +1,9 @@
 -- The five functions of the walk, by one induction: the sets that may still be opened fall. Assumes nothing.
 use Prim.Native.Nat.{_+_, _*_, _-_}
+use native.Mathlib.Omega.{arith}
 use borrow.Author.Needs.{needs}
 use Rattle.introspection.specs.MaxDepth.{documentOf}
-use Rattle.introspection.proofs.Walk.{Going, walking}
+use Rattle.introspection.proofs.Walk.{Going, field-deep, walking}
 use Prim.Native.Nat.{ℕ, _<_}
 use borrow.Fn.Kinds.{In}
 use borrow.Fn.PlainCycle.{Measures, is, falls, and}
@@ -158,7 +159,7 @@ pub +check-child-set+check-field+check-selection+check-selection-set+check-sprea
     (λ c. search walk)
     (λ c. search walk)
     (λ c. search walk)
-    (λ c. search walk)
+    (λ c. field-deep _ _ _ _ _ (c .before .before .is-list .ensures) (c .before .if1 .left) (omega arith))
     (λ c κs. search walk)
     (λ c. search walk)
     (λ c. search walk))
