@@ -32,56 +32,82 @@ kitBytes = 34 ∷ 92 ∷ 8 ∷ 12 ∷ 10 ∷ 13 ∷ 9 ∷ 1 ∷ []
 -- names by number
 abbrev pub 'typename : ℕ
 'typename = 0
+
 abbrev pub 'Int : ℕ
 'Int = 1
+
 abbrev pub 'Float : ℕ
 'Float = 2
+
 abbrev pub 'String : ℕ
 'String = 3
+
 abbrev pub 'Boolean : ℕ
 'Boolean = 4
+
 abbrev pub 'ID : ℕ
 'ID = 5
+
 abbrev pub 'schema : ℕ
 'schema = 6
+
 abbrev pub 'fields : ℕ
 'fields = 8
+
 abbrev pub 'interfaces : ℕ
 'interfaces = 9
+
 abbrev pub 'Query : ℕ
 'Query = 12
+
 abbrev pub 'f : ℕ
 'f = 13
+
 abbrev pub 'g : ℕ
 'g = 14
+
 abbrev pub 'a : ℕ
 'a = 15
+
 abbrev pub 'b : ℕ
 'b = 16
+
 abbrev pub 'x : ℕ
 'x = 17
+
 abbrev pub 'y : ℕ
 'y = 18
+
 abbrev pub 'v : ℕ
 'v = 19
+
 abbrev pub 'Any : ℕ
 'Any = 20
+
 abbrev pub 'O : ℕ
 'O = 21
+
 abbrev pub 'R : ℕ
 'R = 22
+
 abbrev pub 'I : ℕ
 'I = 23
+
 abbrev pub 'U : ℕ
 'U = 24
+
 abbrev pub 'E : ℕ
 'E = 25
+
 abbrev pub 'P : ℕ
 'P = 26
+
 abbrev pub 'Nope : ℕ
 'Nope = 27
+
 abbrev pub 'F : ℕ
 'F = 28
+
 abbrev pub 'G : ℕ
 'G = 29
 
@@ -217,7 +243,7 @@ tablesOf k = record {
   literals = words (literal 0) (rowsFor 11 k);
   variables = words 0 (rowsFor 12 k);
   answers = words 0 (rowsFor 13 k);
-  root = 0
+  root = 0;
 }
 
 -- ---- rows of the schema
@@ -393,55 +419,78 @@ echoes n argument place = 5 ∷ n ∷ argument ∷ 0 ∷ 0 ∷ []
 
 -- ---- the schema of the worked runs
 
-
 abbrev pub :Int : ℕ
 :Int = 0
+
 abbrev pub :Int! : ℕ
 :Int! = 1
+
 abbrev pub :[Int] : ℕ
 :[Int] = 2
+
 abbrev pub :[Int!] : ℕ
 :[Int!] = 3
+
 abbrev pub :[Int]! : ℕ
 :[Int]! = 4
+
 abbrev pub :[Int!]! : ℕ
 :[Int!]! = 5
+
 abbrev pub :[[Int]] : ℕ
 :[[Int]] = 6
+
 abbrev pub :[[Int]!] : ℕ
 :[[Int]!] = 7
+
 abbrev pub :Float : ℕ
 :Float = 8
+
 abbrev pub :String : ℕ
 :String = 9
+
 abbrev pub :String! : ℕ
 :String! = 10
+
 abbrev pub :Boolean : ℕ
 :Boolean = 11
+
 abbrev pub :ID : ℕ
 :ID = 12
+
 abbrev pub :Any : ℕ
 :Any = 13
+
 abbrev pub :[Any] : ℕ
 :[Any] = 14
+
 abbrev pub :E : ℕ
 :E = 15
+
 abbrev pub :O : ℕ
 :O = 16
+
 abbrev pub :O! : ℕ
 :O! = 17
+
 abbrev pub :[O] : ℕ
 :[O] = 18
+
 abbrev pub :I : ℕ
 :I = 19
+
 abbrev pub :U : ℕ
 :U = 20
+
 abbrev pub :P : ℕ
 :P = 21
+
 abbrev pub :[P] : ℕ
 :[P] = 22
+
 abbrev pub :Nope : ℕ
 :Nope = 23
+
 abbrev pub :[Nope] : ℕ
 :[Nope] = 24
 
@@ -454,12 +503,12 @@ ownRef = 25
 abbrev pub schemaWithoutString : Kit
 schemaWithoutString =
     refs (
-      named 'Int ∷ named! 'Int ∷ listOf :Int ∷ listOf :Int! ∷ listOf! :Int ∷ listOf! :Int! ∷ listOf :[Int] ∷ listOf :[Int]! ∷
-      named 'Float ∷ named 'String ∷ named! 'String ∷ named 'Boolean ∷ named 'ID ∷ named 'Any ∷ listOf :Any ∷ named 'E ∷
-      named 'O ∷ named! 'O ∷ listOf :O ∷ named 'I ∷ named 'U ∷ named 'P ∷ listOf :P ∷ named 'Nope ∷ listOf :Nope ∷
-      []) ∷
+    named 'Int ∷ named! 'Int ∷ listOf :Int ∷ listOf :Int! ∷ listOf! :Int ∷ listOf! :Int! ∷ listOf :[Int] ∷ listOf :[Int]! ∷
+    named 'Float ∷ named 'String ∷ named! 'String ∷ named 'Boolean ∷ named 'ID ∷ named 'Any ∷ listOf :Any ∷ named 'E ∷
+    named 'O ∷ named! 'O ∷ listOf :O ∷ named 'I ∷ named 'U ∷ named 'P ∷ listOf :P ∷ named 'Nope ∷ listOf :Nope ∷
+    []) ∷
     types (scalar 'Int ∷ scalar 'Float ∷ scalar 'Boolean ∷ scalar 'ID ∷ scalar 'Any ∷
-      type 'E 1 0 0 0 2 ∷ type 'O 2 0 4 2 3 ∷ type 'R 2 1 1 0 0 ∷ type 'I 3 1 1 0 0 ∷ type 'U 4 0 0 5 1 ∷ type 'P 5 4 3 0 0 ∷ []) ∷
+    type 'E 1 0 0 0 2 ∷ type 'O 2 0 4 2 3 ∷ type 'R 2 1 1 0 0 ∷ type 'I 3 1 1 0 0 ∷ type 'U 4 0 0 5 1 ∷ type 'P 5 4 3 0 0 ∷ []) ∷
     members (listed 'a ∷ listed 'b ∷ listed 'I ∷ listed 'Nope ∷ listed 'Any ∷ listed 'O ∷ []) ∷
     fields (field 'a :O ∷ field 'f :Int! ∷ field 'g :Int ∷ field 'b :[O] ∷ fieldBy 'a :Int 0 ∷ field 'b :Int! ∷ field 'x :P ∷ []) ∷
     literals (intLiteral 5 ∷ []) ∷ []
@@ -516,7 +565,14 @@ error code place path = record { code = code; place = place; path = path }
 -- answered 0, in the order of the document or in one that the choices say, with all the room that there may be
 abbrev pub chosen : String → Kit → Choices → String → List Expected → Case
 chosen label kit choices text errors = record {
-  label = label; kit = kit; textRoom = 65536; errorRoom = 16384; choices = choices; code = 0; text = ascii text; errors = errors
+  label = label;
+  kit = kit;
+  textRoom = 65536;
+  errorRoom = 16384;
+  choices = choices;
+  code = 0;
+  text = ascii text;
+  errors = errors;
 }
 
 abbrev pub answered : String → Kit → String → List Expected → Case
@@ -525,7 +581,14 @@ answered label kit text errors = chosen label kit [] text errors
 -- answered with a code other than 0
 abbrev pub refusedAt : String → Kit → (textRoom errorRoom : ℕ) → Choices → ℕ → Case
 refusedAt label kit textRoom errorRoom choices code = record {
-  label = label; kit = kit; textRoom = textRoom; errorRoom = errorRoom; choices = choices; code = code; text = []; errors = []
+  label = label;
+  kit = kit;
+  textRoom = textRoom;
+  errorRoom = errorRoom;
+  choices = choices;
+  code = code;
+  text = [];
+  errors = [];
 }
 
 abbrev pub refuses : String → Kit → ℕ → Case

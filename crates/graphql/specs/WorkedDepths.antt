@@ -47,9 +47,9 @@ workedDepths =
     tooDeepAt "document 01: F last" (document (set 0 2 ∷ set 2 1 ∷ set 3 1 ∷ set 4 1 ∷ []) (fieldsIn 1 ∷ spread 0 'F ∷ interfacesIn 2 ∷ spread 0 'F ∷ fields' ∷ []) (fragment 'F 'Query 3 ∷ [])) (selection 4) ∷
     -- F = {fields {interfaces}} and G = {...F}: `{...F ...G fields {interfaces {...G}}}`, and the same without the leading ...F
     depthOf "reading 26: F met again inside G adds nothing to G" (document (set 0 3 ∷ set 3 1 ∷ set 4 1 ∷ set 5 1 ∷ set 6 1 ∷ set 7 1 ∷ [])
-      (spread 0 'F ∷ spread 0 'G ∷ fieldsIn 1 ∷ interfacesIn 2 ∷ spread 0 'G ∷ fieldsIn 4 ∷ interfaces' ∷ spread 0 'F ∷ []) (fragment 'F 'Query 3 ∷ fragment 'G 'Query 5 ∷ [])) 2 ∷
+    (spread 0 'F ∷ spread 0 'G ∷ fieldsIn 1 ∷ interfacesIn 2 ∷ spread 0 'G ∷ fieldsIn 4 ∷ interfaces' ∷ spread 0 'F ∷ []) (fragment 'F 'Query 3 ∷ fragment 'G 'Query 5 ∷ [])) 2 ∷
     tooDeepAt "reading 26: F met first inside G" (document (set 0 2 ∷ set 2 1 ∷ set 3 1 ∷ set 4 1 ∷ set 5 1 ∷ set 6 1 ∷ [])
-      (spread 0 'G ∷ fieldsIn 1 ∷ interfacesIn 2 ∷ spread 0 'G ∷ fieldsIn 4 ∷ interfaces' ∷ spread 0 'F ∷ []) (fragment 'F 'Query 3 ∷ fragment 'G 'Query 5 ∷ [])) (selection 3) ∷
+    (spread 0 'G ∷ fieldsIn 1 ∷ interfacesIn 2 ∷ spread 0 'G ∷ fieldsIn 4 ∷ interfaces' ∷ spread 0 'F ∷ []) (fragment 'F 'Query 3 ∷ fragment 'G 'Query 5 ∷ [])) (selection 3) ∷
     -- F = {...F}, and F = {fields {...F}}
     refused "reading 27: a fragment that spreads itself" (document (set 0 1 ∷ set 1 1 ∷ []) (spread 0 'F ∷ spread 0 'F ∷ []) (fragment 'F 'Query 1 ∷ [])) 3 ∷
     tooDeepAt "reading 27: a fragment that spreads itself deeper" (document (set 0 1 ∷ set 1 1 ∷ set 2 1 ∷ []) (spread 0 'F ∷ fieldsIn 2 ∷ spread 0 'F ∷ []) (fragment 'F 'Query 1 ∷ [])) (selection 1) ∷

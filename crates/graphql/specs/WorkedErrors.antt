@@ -46,32 +46,32 @@ errorRuns =
     answered "error 6: an input object type" (items :P 2 (wholeNumber 1 0 ∷ []) (leafOf 0 0 ∷ objectOf 'O ∷ [])) "{\"f\":[null,null]}" (itemFails 6 0 ∷ itemFails 6 1 ∷ []) ∷
     -- `f: [Int]` answers an object; the least and the greatest that fit; -2^31 - 1, 2^31 and 2^63 - 1; 2^63, "x" and 1.5
     answered "errors 7, 14 and 15: Int" (items :Int 9
-      (negativeNumber 2147483648 0 ∷ wholeNumber 2147483647 0 ∷ negativeNumber 2147483649 0 ∷ wholeNumber 2147483648 0 ∷ wholeNumber 4294967295 2147483647 ∷
-      wholeNumber 0 2147483648 ∷ stringNode 'x ∷ floatNode one-and-a-half ∷ []) (objectOf 'O ∷ leaves 0 8))
-      "{\"f\":[null,-2147483648,2147483647,null,null,null,null,null,null]}"
-      (itemFails 7 0 ∷ itemFails 14 3 ∷ itemFails 14 4 ∷ itemFails 14 5 ∷ itemFails 15 6 ∷ itemFails 15 7 ∷ itemFails 15 8 ∷ []) ∷
+    (negativeNumber 2147483648 0 ∷ wholeNumber 2147483647 0 ∷ negativeNumber 2147483649 0 ∷ wholeNumber 2147483648 0 ∷ wholeNumber 4294967295 2147483647 ∷
+    wholeNumber 0 2147483648 ∷ stringNode 'x ∷ floatNode one-and-a-half ∷ []) (objectOf 'O ∷ leaves 0 8))
+    "{\"f\":[null,-2147483648,2147483647,null,null,null,null,null,null]}"
+    (itemFails 7 0 ∷ itemFails 14 3 ∷ itemFails 14 4 ∷ itemFails 14 5 ∷ itemFails 15 6 ∷ itemFails 15 7 ∷ itemFails 15 8 ∷ []) ∷
     -- `f: [E]`, `enum E { a b }`, answers an object, "x", 1 and "b"
     answered "errors 7 and 13: an enum" (items :E 4 (stringNode 'x ∷ wholeNumber 1 0 ∷ stringNode 'b ∷ []) (objectOf 'O ∷ leaves 0 3)) "{\"f\":[null,null,null,\"b\"]}"
-      (itemFails 7 0 ∷ itemFails 13 1 ∷ itemFails 13 2 ∷ []) ∷
+    (itemFails 7 0 ∷ itemFails 13 1 ∷ itemFails 13 2 ∷ []) ∷
     -- `f: [U]`, `union U = O`, answers objects of type Nope, E (an enum), R and O, and 1
     answered "errors 8, 9 and 12: a union; reading 3" (items :U 5 (wholeNumber 1 0 ∷ []) (objectOf 'Nope ∷ objectOf 'E ∷ objectOf 'R ∷ objectOf 'O ∷ leafOf 0 0 ∷ [])) "{\"f\":[null,null,null,{},null]}"
-      (itemFails 8 0 ∷ itemFails 8 1 ∷ itemFails 9 2 ∷ itemFails 12 4 ∷ []) ∷
+    (itemFails 8 0 ∷ itemFails 8 1 ∷ itemFails 9 2 ∷ itemFails 12 4 ∷ []) ∷
     -- `f: [I]` answers objects of type Nope, I itself, R, and O, which implements I, and 1
     answered "errors 8, 10 and 12: an interface; reading 3" (items :I 5 (wholeNumber 1 0 ∷ []) (objectOf 'Nope ∷ objectOf 'I ∷ objectOf 'R ∷ objectOf 'O ∷ leafOf 0 0 ∷ [])) "{\"f\":[null,null,null,{},null]}"
-      (itemFails 8 0 ∷ itemFails 8 1 ∷ itemFails 10 2 ∷ itemFails 12 4 ∷ []) ∷
+    (itemFails 8 0 ∷ itemFails 8 1 ∷ itemFails 10 2 ∷ itemFails 12 4 ∷ []) ∷
     -- `f: [O]` answers objects of type R, Nope and O, and 1
     answered "errors 11 and 12: an object type; reading 3" (items :O 4 (wholeNumber 1 0 ∷ []) (objectOf 'R ∷ objectOf 'Nope ∷ objectOf 'O ∷ leafOf 0 0 ∷ [])) "{\"f\":[null,null,{},null]}"
-      (itemFails 11 0 ∷ itemFails 11 1 ∷ itemFails 12 3 ∷ []) ∷
+    (itemFails 11 0 ∷ itemFails 11 1 ∷ itemFails 12 3 ∷ []) ∷
     -- `f: [Float]` answers 1.5 and 1; `f: [String]` 1 and a string of all that is escaped; `f: [Boolean]` 1 and false
     answered "error 15: Float" (items :Float 2 (floatNode one-and-a-half ∷ wholeNumber 1 0 ∷ []) (leaves 0 2)) "{\"f\":[1.5,null]}" (itemFails 15 1 ∷ []) ∷
     answered "error 15: String" (items :String 2 (wholeNumber 1 0 ∷ escapedNode ∷ []) (leaves 0 2)) "{\"f\":[null,\"\\\"\\\\\\b\\f\\n\\r\\t\\u0001\"]}" (itemFails 15 0 ∷ []) ∷
     answered "error 15: Boolean" (items :Boolean 2 (wholeNumber 1 0 ∷ falseNode ∷ []) (leaves 0 2)) "{\"f\":[null,false]}" (itemFails 15 0 ∷ []) ∷
     -- `f: [ID]` answers 1.5, 2^63, -2^63 and "x"
     answered "error 15: ID" (items :ID 4 (floatNode one-and-a-half ∷ wholeNumber 0 2147483648 ∷ negativeNumber 0 2147483648 ∷ stringNode 'x ∷ []) (leaves 0 4))
-      "{\"f\":[null,null,-9223372036854775808,\"x\"]}" (itemFails 15 0 ∷ itemFails 15 1 ∷ []) ∷
+    "{\"f\":[null,null,-9223372036854775808,\"x\"]}" (itemFails 15 0 ∷ itemFails 15 1 ∷ []) ∷
     -- `f: Any` answers `{"b": true, "a": [2^64 - 1]}`
     answered "error 15: any JSON at another scalar" (one :Any :Any (objectNode 1 2 ∷ underText 'b trueNode ∷ underText 'a (arrayNode 3 1) ∷ wholeNumber 4294967295 4294967295 ∷ []) (leafOf 'f 0 ∷ []))
-      "{\"f\":{\"b\":true,\"a\":[18446744073709551615]}}" [] ∷
+    "{\"f\":{\"b\":true,\"a\":[18446744073709551615]}}" [] ∷
     -- `f(x: Int!)` given `null`
     fFails "error 16: a null argument" (echo :Int! (nullLiteral ∷ [])) 16 (definition 0) ∷
     -- `f(x: [Int!])` given `[1, null]`
@@ -91,7 +91,7 @@ errorRuns =
     fFails "error 24: a missing argument" (over (queries (fieldWith 'f :Any 0 1 ∷ []) ∷ arguments (argument 'x :Int! ∷ []) ∷ sets (set 0 1 ∷ []) ∷ selections (ask 'f :Any ∷ []) ∷ answers (objectAnswer 0 'Query 1 1 ∷ echoes 'f 'x ∷ []) ∷ [])) 24 (definition 0) ∷
     -- `{f {g f}}` with `f: [O]`, `g: Int`: two objects, of which the second answers true to g
     answered "a path through objects and lists" (over
-      (queries (field 'f :[O] ∷ []) ∷ sets (set 0 1 ∷ set 1 2 ∷ []) ∷ selections (askIn 'f :[O] 1 ∷ ask 'g :Int ∷ ask 'f :Int ∷ []) ∷ nodes (wholeNumber 1 0 ∷ trueNode ∷ []) ∷
-      answers (objectAnswer 0 'Query 1 1 ∷ listAnswer 'f 2 2 ∷ objectAnswer 0 'O 4 2 ∷ objectAnswer 0 'O 6 2 ∷ leafOf 'g 0 ∷ leafOf 'f 0 ∷ leafOf 'f 0 ∷ leafOf 'g 1 ∷ []) ∷ []))
-      "{\"f\":[{\"g\":1,\"f\":1},{\"g\":null,\"f\":1}]}" (error 15 (selection 1) (name 'f ∷ index 1 ∷ name 'g ∷ []) ∷ []) ∷
+    (queries (field 'f :[O] ∷ []) ∷ sets (set 0 1 ∷ set 1 2 ∷ []) ∷ selections (askIn 'f :[O] 1 ∷ ask 'g :Int ∷ ask 'f :Int ∷ []) ∷ nodes (wholeNumber 1 0 ∷ trueNode ∷ []) ∷
+    answers (objectAnswer 0 'Query 1 1 ∷ listAnswer 'f 2 2 ∷ objectAnswer 0 'O 4 2 ∷ objectAnswer 0 'O 6 2 ∷ leafOf 'g 0 ∷ leafOf 'f 0 ∷ leafOf 'f 0 ∷ leafOf 'g 1 ∷ []) ∷ []))
+    "{\"f\":[{\"g\":1,\"f\":1},{\"g\":null,\"f\":1}]}" (error 15 (selection 1) (name 'f ∷ index 1 ∷ name 'g ∷ []) ∷ []) ∷
     []

@@ -20,7 +20,14 @@ bracketed (suc n) opens inner closes = ascii opens ++ (bracketed n opens inner c
 -- answered 0 with this text and these errors
 abbrev within : String → Kit → (textRoom errorRoom : ℕ) → List ℕ → List Expected → Case
 within label kit textRoom errorRoom text errors = record {
-  label = label; kit = kit; textRoom = textRoom; errorRoom = errorRoom; choices = []; code = 0; text = text; errors = errors
+  label = label;
+  kit = kit;
+  textRoom = textRoom;
+  errorRoom = errorRoom;
+  choices = [];
+  code = 0;
+  text = text;
+  errors = errors;
 }
 
 abbrev f-is : String → Kit → List ℕ → Case
@@ -68,11 +75,11 @@ bufferRuns =
     answered "code 2: not __typename" (alsoAsking 'typename) "{\"f\":1}" [] ∷
     -- `{__schema: f}`, `{...__schema f}`, and `{__schema @skip(if: true)}`
     answered "code 2: a response key is no name" (over
-      (queries (field 'f :Int ∷ []) ∷ sets (set 0 1 ∷ []) ∷ selections (select 0 0 'f 'schema :Int ∷ []) ∷ nodes (wholeNumber 1 0 ∷ []) ∷
-      answers (objectAnswer 0 'Query 1 1 ∷ leafOf 'f 0 ∷ []) ∷ [])) "{\"__schema\":1}" [] ∷
+    (queries (field 'f :Int ∷ []) ∷ sets (set 0 1 ∷ []) ∷ selections (select 0 0 'f 'schema :Int ∷ []) ∷ nodes (wholeNumber 1 0 ∷ []) ∷
+    answers (objectAnswer 0 'Query 1 1 ∷ leafOf 'f 0 ∷ []) ∷ [])) "{\"__schema\":1}" [] ∷
     answered "code 2: a spread is no field" (over
-      (queries (field 'f :Int ∷ []) ∷ sets (set 0 2 ∷ []) ∷ selections (spread 0 'schema ∷ ask 'f :Int ∷ []) ∷ nodes (wholeNumber 1 0 ∷ []) ∷
-      answers (objectAnswer 0 'Query 1 1 ∷ leafOf 'f 0 ∷ []) ∷ [])) "{\"f\":1}" [] ∷
+    (queries (field 'f :Int ∷ []) ∷ sets (set 0 2 ∷ []) ∷ selections (spread 0 'schema ∷ ask 'f :Int ∷ []) ∷ nodes (wholeNumber 1 0 ∷ []) ∷
+    answers (objectAnswer 0 'Query 1 1 ∷ leafOf 'f 0 ∷ []) ∷ [])) "{\"f\":1}" [] ∷
     refuses "code 2: also where it would be dropped" (over (sets (set 0 1 ∷ []) ∷ selections (select if-true 0 'schema 'schema :Any ∷ []) ∷ answers (objectAnswer 0 'Query 1 0 ∷ []) ∷ [])) 2 ∷
     refusedAt "1 before 2" (alsoAsking 'schema) 65537 16384 [] 1 ∷
     -- `{"f":1}` has 7 bytes
@@ -136,10 +143,10 @@ pathRuns =
     refuses "reading 21: an error item has a path" (down 31 (ask 'b :[O]) (errs 0 ∷ []) 1) 3 ∷
     -- below 31 times a: `g: Int` answering a list of one
     within "reading 21: error 4 reaches no longer path" (down 31 (ask 'g :Int) (skips 0 ∷ []) 1) 65536 16384 (a-in 31 "{\"g\":null}")
-      (error 4 (selection 31) (copies 31 (name 'a) ++ (name 'g ∷ [])) ∷ []) ∷
+    (error 4 (selection 31) (copies 31 (name 'a) ++ (name 'g ∷ [])) ∷ []) ∷
     -- `f: [[..[Int]..]]` answering a list that holds itself: with 31 list types the path ends in error 4, with 32 it is too long
     within "code 3: a path of 31 indices" (one (30 + ownRef) (30 + ownRef) [] (listAnswer 'f 1 1 ∷ []) ++ lists-of :Int 31) 65536 16384
-      (ascii "{\"f\":" ++ (bracketed 31 "[" "null" "]" ++ ascii "}")) (error 4 (selection 0) (name 'f ∷ copies 31 (index 0)) ∷ []) ∷
+    (ascii "{\"f\":" ++ (bracketed 31 "[" "null" "]" ++ ascii "}")) (error 4 (selection 0) (name 'f ∷ copies 31 (index 0)) ∷ []) ∷
     refuses "code 3: a path of 32 indices" (one lists32 lists32 [] (listAnswer 'f 1 1 ∷ []) ++ lists-of :Int 32) 3 ∷
     []
 
@@ -206,13 +213,13 @@ containerRuns =
     refuses "reading 19: an empty list is a container" (unused lists33 (listLiterals 1 32 (listLiteral 34 0)) ++ lists-of :Int 33) 3 ∷
     -- `f(x: Any = [[..1..]])`, 33 deep, given `1`, and `f` given an x of 33 containers that it does not define
     f-is "reading 19: an unused default is not built" (over
-      (queries (fieldWith 'f :Any 0 1 ∷ []) ∷ arguments (argumentBy 'x :Any 2 ∷ []) ∷ sets (set 0 1 ∷ []) ∷ selections (askWith 'f :Any 0 1 ∷ []) ∷ given (giving 'x 1 ∷ []) ∷
-      literals (intLiteral 1 ∷ listLiterals 2 33 (intLiteral 1)) ∷ answers (objectAnswer 0 'Query 1 1 ∷ echoes 'f 'x ∷ []) ∷ []))
-      (ascii "1") ∷
+    (queries (fieldWith 'f :Any 0 1 ∷ []) ∷ arguments (argumentBy 'x :Any 2 ∷ []) ∷ sets (set 0 1 ∷ []) ∷ selections (askWith 'f :Any 0 1 ∷ []) ∷ given (giving 'x 1 ∷ []) ∷
+    literals (intLiteral 1 ∷ listLiterals 2 33 (intLiteral 1)) ∷ answers (objectAnswer 0 'Query 1 1 ∷ echoes 'f 'x ∷ []) ∷ []))
+    (ascii "1") ∷
     f-is "reading 19: an argument without a definition is not built" (over
-      (queries (field 'f :Any ∷ []) ∷ sets (set 0 1 ∷ []) ∷ selections (askWith 'f :Any 0 1 ∷ []) ∷ given (giving 'x 1 ∷ []) ∷
-      literals (listLiterals 1 33 (intLiteral 1)) ∷ nodes (wholeNumber 1 0 ∷ []) ∷ answers (objectAnswer 0 'Query 1 1 ∷ leafOf 'f 0 ∷ []) ∷ []))
-      (ascii "1") ∷
+    (queries (field 'f :Any ∷ []) ∷ sets (set 0 1 ∷ []) ∷ selections (askWith 'f :Any 0 1 ∷ []) ∷ given (giving 'x 1 ∷ []) ∷
+    literals (listLiterals 1 33 (intLiteral 1)) ∷ nodes (wholeNumber 1 0 ∷ []) ∷ answers (objectAnswer 0 'Query 1 1 ∷ leafOf 'f 0 ∷ []) ∷ []))
+    (ascii "1") ∷
     -- `x: Any` given `$v`, v of 33 containers: f answers 1, and x; v of 32 containers: x
     f-is "a variable's containers do not count" (unused :Any (variable 'v ∷ []) ++ v-deep 33) (ascii "1") ∷
     refuses "reading 25: echoed, they count" (echo :Any (variable 'v ∷ []) ++ v-is (arrays 0 33 (wholeNumber 1 0))) 3 ∷

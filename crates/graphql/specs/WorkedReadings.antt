@@ -30,8 +30,8 @@ completingRuns =
     -- `f: [Int]` answers the leaf `[1]`; `f(x: [Int]): [Int]` answers x, `[1]`; `f: Nope` answers a list
     fFails "reading 2: a leaf array is no list" (one :[Int] :[Int] (arrayNode 1 1 ∷ wholeNumber 1 0 ∷ []) (leafOf 'f 0 ∷ [])) 3 (selection 0) ∷
     fFails "reading 2: an echoed array is no list" (over
-      (queries (fieldWith 'f :[Int] 0 1 ∷ []) ∷ arguments (argument 'x :[Int] ∷ []) ∷ sets (set 0 1 ∷ []) ∷ selections (askWith 'f :[Int] 0 1 ∷ []) ∷ given (giving 'x 1 ∷ []) ∷
-      literals (listLiteral 2 1 ∷ intLiteral 1 ∷ []) ∷ answers (objectAnswer 0 'Query 1 1 ∷ echoes 'f 'x ∷ []) ∷ [])) 3 (selection 0) ∷
+    (queries (fieldWith 'f :[Int] 0 1 ∷ []) ∷ arguments (argument 'x :[Int] ∷ []) ∷ sets (set 0 1 ∷ []) ∷ selections (askWith 'f :[Int] 0 1 ∷ []) ∷ given (giving 'x 1 ∷ []) ∷
+    literals (listLiteral 2 1 ∷ intLiteral 1 ∷ []) ∷ answers (objectAnswer 0 'Query 1 1 ∷ echoes 'f 'x ∷ []) ∷ [])) 3 (selection 0) ∷
     fFails "reading 2: a list at an undefined type is 4" (one :Nope :Nope [] (listAnswer 'f 2 0 ∷ [])) 4 (selection 0) ∷
     -- `{f {__typename}}` with `f: O`, attached to String!, to Int, and with no String among the types: it goes up to f
     answered "reading 4: __typename" (inO (ask 'typename :String! ∷ []) (sets (set 0 1 ∷ set 1 1 ∷ []) ∷ [])) "{\"f\":{\"__typename\":\"O\"}}" [] ∷
@@ -41,17 +41,17 @@ completingRuns =
     answered "reading 5: interfaces that are none" (inO (inlineOn 'I 2 ∷ inlineOn 'Nope 3 ∷ inlineOn 'Any 4 ∷ ask 'g :Int ∷ ask 'f :Int ∷ ask 'f :Int ∷ []) (sets (set 0 1 ∷ set 1 3 ∷ set 4 1 ∷ set 5 1 ∷ set 6 1 ∷ []) ∷ [])) "{\"f\":{\"g\":2}}" [] ∷
     -- `{f {... on O {g} ... on U {f} ... on R {x: f} ... {y: g}}}` with `f: O`, `union U = O`
     answered "fragments on an object, a union, another object, and on no type" (inO
-      (inlineOn 'O 2 ∷ inlineOn 'U 3 ∷ inlineOn 'R 4 ∷ inline 0 5 ∷ ask 'g :Int ∷ ask 'f :Int ∷ select 0 0 'f 'x :Int ∷ select 0 0 'g 'y :Int ∷ [])
-      (sets (set 0 1 ∷ set 1 4 ∷ set 5 1 ∷ set 6 1 ∷ set 7 1 ∷ set 8 1 ∷ []) ∷ []))
-      "{\"f\":{\"g\":2,\"f\":1,\"y\":2}}" [] ∷
+    (inlineOn 'O 2 ∷ inlineOn 'U 3 ∷ inlineOn 'R 4 ∷ inline 0 5 ∷ ask 'g :Int ∷ ask 'f :Int ∷ select 0 0 'f 'x :Int ∷ select 0 0 'g 'y :Int ∷ [])
+    (sets (set 0 1 ∷ set 1 4 ∷ set 5 1 ∷ set 6 1 ∷ set 7 1 ∷ set 8 1 ∷ []) ∷ []))
+    "{\"f\":{\"g\":2,\"f\":1,\"y\":2}}" [] ∷
     -- `f: [Int]` answers 1, an error and another error
     answered "reading 6: after an error item no item is taken" (one :[Int] :[Int] (wholeNumber 1 0 ∷ []) (listAnswer 'f 2 3 ∷ leafOf 0 0 ∷ errs 0 ∷ errs 0 ∷ [])) "{\"f\":null}" (error 1 (selection 0) (name 'f ∷ index 1 ∷ []) ∷ []) ∷
     -- `f: [Any]` answers a list of an echo of x, which it does not have; `f(x: Int): [Any]` a list of two
     answered "reading 7: an echo without its argument fails the list" (one :[Any] :[Any] [] (listAnswer 'f 2 1 ∷ echoes 0 'x ∷ [])) "{\"f\":null}" (error 1 (selection 0) (name 'f ∷ index 0 ∷ []) ∷ []) ∷
     answered "reading 7: an echo in a list" (over
-      (queries (fieldWith 'f :[Any] 0 1 ∷ []) ∷ arguments (argument 'x :Int ∷ []) ∷ sets (set 0 1 ∷ []) ∷ selections (askWith 'f :[Any] 0 1 ∷ []) ∷ given (giving 'x 1 ∷ []) ∷
-      literals (intLiteral 3 ∷ []) ∷ answers (objectAnswer 0 'Query 1 1 ∷ listAnswer 'f 2 2 ∷ echoes 0 'x ∷ echoes 0 'x ∷ []) ∷ []))
-      "{\"f\":[3,3]}" [] ∷
+    (queries (fieldWith 'f :[Any] 0 1 ∷ []) ∷ arguments (argument 'x :Int ∷ []) ∷ sets (set 0 1 ∷ []) ∷ selections (askWith 'f :[Any] 0 1 ∷ []) ∷ given (giving 'x 1 ∷ []) ∷
+    literals (intLiteral 3 ∷ []) ∷ answers (objectAnswer 0 'Query 1 1 ∷ listAnswer 'f 2 2 ∷ echoes 0 'x ∷ echoes 0 'x ∷ []) ∷ []))
+    "{\"f\":[3,3]}" [] ∷
     -- `f: Int!` answers skip
     answered "a skipped field is left out" (one :Int! :Int! [] (skips 'f ∷ [])) "{}" [] ∷
     []
@@ -90,9 +90,9 @@ argumentRuns =
     fFails "reading 12: 16 for a null variable" (echo :Int! (variable 'v ∷ []) ++ v-is (nullNode ∷ [])) 16 (definition 0) ∷
     fFails "reading 12: 24 for an absent variable" (echo :Int! (variable 'v ∷ [])) 24 (definition 0) ∷
     echoed "reading 12: an absent variable and a default" (over
-      (queries (fieldWith 'f :Any 0 1 ∷ []) ∷ arguments (argumentBy 'x :Int! 1 ∷ []) ∷ sets (set 0 1 ∷ []) ∷ selections (askWith 'f :Any 0 1 ∷ []) ∷ given (giving 'x 2 ∷ []) ∷
-      literals (intLiteral 1 ∷ variable 'v ∷ []) ∷ answers (objectAnswer 0 'Query 1 1 ∷ echoes 'f 'x ∷ []) ∷ []))
-      "{\"f\":1}" ∷
+    (queries (fieldWith 'f :Any 0 1 ∷ []) ∷ arguments (argumentBy 'x :Int! 1 ∷ []) ∷ sets (set 0 1 ∷ []) ∷ selections (askWith 'f :Any 0 1 ∷ []) ∷ given (giving 'x 2 ∷ []) ∷
+    literals (intLiteral 1 ∷ variable 'v ∷ []) ∷ answers (objectAnswer 0 'Query 1 1 ∷ echoes 'f 'x ∷ []) ∷ []))
+    "{\"f\":1}" ∷
     fFails "reading 12: 17 inside an object" (echo :P (objectLiteral 2 1 ∷ under 'b nullLiteral ∷ [])) 17 (literal 2) ∷
     fFails "reading 12: 18 inside an object" (echo :P (objectLiteral 2 1 ∷ under 'b (variable 'v) ∷ []) ++ v-is (nullNode ∷ [])) 18 (literal 2) ∷
     fFails "reading 12: 19 inside an object" (echo :P (objectLiteral 2 1 ∷ under 'b (variable 'v) ∷ [])) 19 (literal 2) ∷
@@ -106,13 +106,13 @@ argumentRuns =
     fFails "reading 14: the second argument fails" (twoArguments :Int! (intLiteral 1 ∷ nullLiteral ∷ [])) 16 (definition 1) ∷
     -- `f: Any` given `(x: [$v])`: x has no definition, so f answers an error and there is no code 5
     fFails "reading 14: an argument without a definition" (over
-      (queries (field 'f :Any ∷ []) ∷ sets (set 0 1 ∷ []) ∷ selections (askWith 'f :Any 0 1 ∷ []) ∷ given (giving 'x 1 ∷ []) ∷ literals (listLiteral 2 1 ∷ variable 'v ∷ []) ∷
-      answers (objectAnswer 0 'Query 1 1 ∷ echoes 'f 'x ∷ []) ∷ [])) 1 (selection 0) ∷
+    (queries (field 'f :Any ∷ []) ∷ sets (set 0 1 ∷ []) ∷ selections (askWith 'f :Any 0 1 ∷ []) ∷ given (giving 'x 1 ∷ []) ∷ literals (listLiteral 2 1 ∷ variable 'v ∷ []) ∷
+    answers (objectAnswer 0 'Query 1 1 ∷ echoes 'f 'x ∷ []) ∷ [])) 1 (selection 0) ∷
     -- `{f(x: 1) f(x: 2)}`
     echoed "reading 14: the first merged field's arguments" (over
-      (queries (fieldWith 'f :Any 0 1 ∷ []) ∷ arguments (argument 'x :Int ∷ []) ∷ sets (set 0 2 ∷ []) ∷ selections (askWith 'f :Any 0 1 ∷ askWith 'f :Any 1 1 ∷ []) ∷
-      given (giving 'x 1 ∷ giving 'x 2 ∷ []) ∷ literals (intLiteral 1 ∷ intLiteral 2 ∷ []) ∷ answers (objectAnswer 0 'Query 1 1 ∷ echoes 'f 'x ∷ []) ∷ []))
-      "{\"f\":1}" ∷
+    (queries (fieldWith 'f :Any 0 1 ∷ []) ∷ arguments (argument 'x :Int ∷ []) ∷ sets (set 0 2 ∷ []) ∷ selections (askWith 'f :Any 0 1 ∷ askWith 'f :Any 1 1 ∷ []) ∷
+    given (giving 'x 1 ∷ giving 'x 2 ∷ []) ∷ literals (intLiteral 1 ∷ intLiteral 2 ∷ []) ∷ answers (objectAnswer 0 'Query 1 1 ∷ echoes 'f 'x ∷ []) ∷ []))
+    "{\"f\":1}" ∷
     -- `x: P` given `{b: null, y: 1}`
     fFails "reading 15: 21 before the values" (echo :P (objectLiteral 2 2 ∷ under 'b nullLiteral ∷ under 'y (intLiteral 1) ∷ [])) 21 (literal 1) ∷
     -- `x: Int` given `["x"]`; `x: E` given `g`, which is no value of E; `x: O`, `x: I`, `x: U` given `{y: a}`
@@ -123,8 +123,8 @@ argumentRuns =
     echoed "reading 16: a union" (echo :U (objectLiteral 2 1 ∷ under 'y (enumLiteral 'a) ∷ [])) "{\"f\":{\"y\":\"a\"}}" ∷
     -- `f(x: Float): Float` given `1`
     fFails "reading 16: the literal 1 echoed at Float" (over
-      (queries (fieldWith 'f :Float 0 1 ∷ []) ∷ arguments (argument 'x :Float ∷ []) ∷ sets (set 0 1 ∷ []) ∷ selections (askWith 'f :Float 0 1 ∷ []) ∷ given (giving 'x 1 ∷ []) ∷
-      literals (intLiteral 1 ∷ []) ∷ answers (objectAnswer 0 'Query 1 1 ∷ echoes 'f 'x ∷ []) ∷ [])) 15 (selection 0) ∷
+    (queries (fieldWith 'f :Float 0 1 ∷ []) ∷ arguments (argument 'x :Float ∷ []) ∷ sets (set 0 1 ∷ []) ∷ selections (askWith 'f :Float 0 1 ∷ []) ∷ given (giving 'x 1 ∷ []) ∷
+    literals (intLiteral 1 ∷ []) ∷ answers (objectAnswer 0 'Query 1 1 ∷ echoes 'f 'x ∷ []) ∷ [])) 15 (selection 0) ∷
     -- `x: [Int]` given `[[$v]]`, and `[$v]`, v absent; `x: Any` given `$v`, `[$v]` and `{a: $v}`
     refuses "reading 17: a variable inside a list inside a list" (echo :[Int] (listLiteral 2 1 ∷ listLiteral 3 1 ∷ variable 'v ∷ [])) 5 ∷
     echoed "reading 17: a variable inside a list" (echo :[Int] (listLiteral 2 1 ∷ variable 'v ∷ [])) "{\"f\":[null]}" ∷

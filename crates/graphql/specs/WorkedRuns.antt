@@ -68,8 +68,14 @@ orderRuns =
     -- the same with an error buffer of 5 words: 7 in one order, 0 in the other
     refusedAt "order: two records do not fit" secondGivesUp 65536 5 [] 7 ∷
     record {
-      label = "order: one record fits"; kit = secondGivesUp; textRoom = 65536; errorRoom = 5; choices = 1 ∷ []; code = 0; text = ascii "null";
-      errors = error 1 (selection 1) (name 'b ∷ []) ∷ []
+      label = "order: one record fits";
+      kit = secondGivesUp;
+      textRoom = 65536;
+      errorRoom = 5;
+      choices = 1 ∷ [];
+      code = 0;
+      text = ascii "null";
+      errors = error 1 (selection 1) (name 'b ∷ []) ∷ [];
     } ∷
     -- a fails first, so that b's leaf is never taken; in the other order it is
     answered "order: answered where another stops with 3" failsOrStops "null" (error 1 (selection 0) (name 'a ∷ []) ∷ []) ∷
@@ -79,22 +85,23 @@ orderRuns =
     -- two codes, by which is reached first
     refuses "order: 3 is reached first" stopsBothWays 3 ∷
     refusedAt "order: 5 is reached first" stopsBothWays 65536 16384 (1 ∷ []) 5 ∷
-    -- choices 5 and 7: of three groups the third, of two the second, then 0 as they have run out; an undefined group is counted and uses one
+    -- choices 5 and 7: of three groups the third, of two the second, then 0 as they have run out. Choice 2 of three groups, the second of
+    -- which is not defined, is the third: an undefined group is counted
     chosen "choices: modulo the groups left" (threeErrors 'g) (5 ∷ 7 ∷ []) "{\"f\":null,\"g\":null,\"a\":null}"
-      (error 1 (selection 2) (name 'a ∷ []) ∷ error 1 (selection 1) (name 'g ∷ []) ∷ error 1 (selection 0) (name 'f ∷ []) ∷ []) ∷
-    chosen "choices: an undefined group is counted" (threeErrors 'y) (1 ∷ 1 ∷ []) "{\"f\":null,\"a\":null}"
-      (error 1 (selection 2) (name 'a ∷ []) ∷ error 1 (selection 0) (name 'f ∷ []) ∷ []) ∷
+    (error 1 (selection 2) (name 'a ∷ []) ∷ error 1 (selection 1) (name 'g ∷ []) ∷ error 1 (selection 0) (name 'f ∷ []) ∷ []) ∷
+    chosen "choices: an undefined group is counted" (threeErrors 'y) (2 ∷ []) "{\"f\":null,\"a\":null}"
+    (error 1 (selection 2) (name 'a ∷ []) ∷ error 1 (selection 0) (name 'f ∷ []) ∷ []) ∷
     -- a's set is given up at f, and leaves 9 to the root and 1 to b's set, where g goes first
     chosen "reading 24: a set that is given up leaves the rest to others" twoObjects (0 ∷ 0 ∷ 9 ∷ 1 ∷ []) "{\"a\":null,\"b\":null}"
-      (error 1 (selection 2) (name 'a ∷ name 'f ∷ []) ∷ error 1 (selection 5) (name 'b ∷ name 'g ∷ []) ∷ error 1 (selection 4) (name 'b ∷ name 'f ∷ []) ∷ []) ∷
+    (error 1 (selection 2) (name 'a ∷ name 'f ∷ []) ∷ error 1 (selection 5) (name 'b ∷ name 'g ∷ []) ∷ error 1 (selection 4) (name 'b ∷ name 'f ∷ []) ∷ []) ∷
     answered "reading 24: the same in document order" twoObjects "{\"a\":null,\"b\":null}"
-      (error 1 (selection 2) (name 'a ∷ name 'f ∷ []) ∷ error 1 (selection 4) (name 'b ∷ name 'f ∷ []) ∷ []) ∷
+    (error 1 (selection 2) (name 'a ∷ name 'f ∷ []) ∷ error 1 (selection 4) (name 'b ∷ name 'f ∷ []) ∷ []) ∷
     -- an item is skipped in one order alone, before the set is given up
     answered "order: an item that is skipped" skipsOrNot "null" (error 1 (selection 1) (name 'b ∷ []) ∷ []) ∷
     chosen "order: an item that is not reached" skipsOrNot (1 ∷ []) "null" (error 1 (selection 1) (name 'b ∷ []) ∷ []) ∷
     -- `f: [Int]` answers a skipped item and "x": the null stands at 0, and its record at 1
     answered "a null after a skipped item has its record elsewhere" (one :[Int] :[Int] (stringNode 'x ∷ []) (listAnswer 'f 2 2 ∷ skips 0 ∷ leafOf 0 0 ∷ [])) "{\"f\":[null]}"
-      (error 15 (selection 0) (name 'f ∷ index 1 ∷ []) ∷ []) ∷
+    (error 15 (selection 0) (name 'f ∷ index 1 ∷ []) ∷ []) ∷
     []
 
 abbrev pub workedRuns : List Case
