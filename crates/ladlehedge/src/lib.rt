@@ -4,6 +4,9 @@
 ghost use mathlib.Core.Path.{_≡_};
 ghost use Rattle.tables.specs.Tables.{tables};
 ghost use Rattle.tables.specs.Lawful.{tableCode};
+ghost use Rattle.graphql.specs.Depth.{depthReport};
+ghost use Rattle.introspection.specs.MaxDepth.{Answers};
+use introspection::max_depth::depth_check;
 use tables::check::table_check;
 
 // Whether the tables lent are lawful: 0, or 1 where a rule is broken.
@@ -46,4 +49,52 @@ pub extern "C" fn ladlehedge_table_check(
         answers,
         root,
     )
+}
+
+// How deep the operation nests lists that a schema can loop through: the code, with the depth where it is 0 and the place
+// where it is 8.
+#[no_mangle]
+pub extern "C" fn ladlehedge_depth_check(
+    pool: &[u8],
+    names: &[u32],
+    type_refs: &[u32],
+    types: &[u32],
+    members: &[u32],
+    fields: &[u32],
+    arguments: &[u32],
+    sets: &[u32],
+    selections: &[u32],
+    given: &[u32],
+    fragments: &[u32],
+    nodes: &[u32],
+    literals: &[u32],
+    variables: &[u32],
+    answers: &[u32],
+    root: u32,
+    depth: &mut u32,
+    place: &mut u32,
+) -> u32
+    ensures { λ r. ⌜ Answers (record { code = r; depth = now (depth .exit); place = now (place .exit) }) (depthReport (tables (now (pool .entry)) (now (names .entry)) (now («type_refs» .entry)) (now (types .entry)) (now (members .entry)) (now (fields .entry)) (now (arguments .entry)) (now (sets .entry)) (now (selections .entry)) (now (given .entry)) (now (fragments .entry)) (now (nodes .entry)) (now (literals .entry)) (now (variables .entry)) (now (answers .entry)) root)) ⌝ }
+{
+    let answer = depth_check(
+        pool,
+        names,
+        type_refs,
+        types,
+        members,
+        fields,
+        arguments,
+        sets,
+        selections,
+        given,
+        fragments,
+        nodes,
+        literals,
+        variables,
+        answers,
+        root,
+    );
+    *depth = answer.depth;
+    *place = answer.place;
+    answer.code
 }
