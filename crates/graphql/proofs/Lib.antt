@@ -1,8 +1,7 @@
--- The worked runs by computation; then demand 3, from what two runs of one computation agree on to the statements.
+-- The cases by computation; then demand 3, from what two runs of one computation agree on to the statements.
 pub mod Computing
 pub mod Cases
-pub mod WorkedRuns
-pub mod WorkedDepths
+pub mod Telling
 pub mod There
 pub mod Stable
 pub mod Order

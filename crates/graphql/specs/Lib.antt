@@ -1,4 +1,4 @@
--- What a run means, in reading order; then worked runs, and the statement that the order of work doesn't show.
+-- What a run means, in reading order; then the cases A to N and four runs more, and the statement that the order of work doesn't show.
 pub mod Run
 pub mod Json
 pub mod Depths
@@ -12,9 +12,5 @@ pub mod Report
 pub mod Depth
 pub mod Kit
 pub mod Cases
-pub mod WorkedErrors
-pub mod WorkedReadings
-pub mod WorkedLimits
-pub mod WorkedRuns
-pub mod WorkedDepths
+pub mod Telling
 pub mod Demand3

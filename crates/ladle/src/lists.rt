@@ -1,20 +1,7 @@
 // A list of texts, each on a line of its own, from which one is taken by its number.
 ghost use Prim.Native.Nat.{_≤_};
 ghost use lib.ListN.{length};
-
-fn line_end(list: &[u8], from: usize) -> usize
-    requires { ⌜ from ≤ length (now list) ⌝ }
-    ensures { λ r. ⌜ (from ≤ r) × (r ≤ length (now (list .entry))) ⌝ }
-{
-    let mut at = from;
-    while at < list.len() {
-        if list[at] == b'\n' {
-            return at;
-        }
-        at += 1;
-    }
-    at
-}
+use verdict::lines::line_end;
 
 // Where the line of this number begins; the list's end where there is none.
 fn line_start(list: &[u8], number: usize) -> usize

@@ -1,38 +1,56 @@
 // ladle check FILE..: whether the tables of a table file are lawful, and if not, why not.
+// ladle depth FILE..: how deep its operation nests lists.
 mod explain;
 mod lists;
 mod say;
 mod table_files;
 
+use table_files::Question;
+
 fn usage() {
-    say::words(b"usage: ladle check FILE..\n\n");
     say::words(
-        b"Reads each table file and prints 0 where its tables are lawful, otherwise 1 and\n",
+        b"usage: ladle check FILE..\n\
+        \x20      ladle depth FILE..\n\
+        \n\
+        check prints 0 where the tables of a file are lawful, otherwise 1 and what is wrong:\n\
+        which table, which row, which rule. depth prints the depth check's code, with the\n\
+        depth behind 0 and behind 8 the place at which the operation is too deep.\n\
+        \n\
+        docs/TABLES.md describes the tables and the file; kits/segments.tables is one to\n\
+        start from.\n",
     );
-    say::words(
-        b"what is wrong: which table, which row, which rule. docs/TABLES.md describes the\n",
-    );
-    say::words(b"tables and the file; kits/segments.tables is one to start from.\n");
 }
 
-// Whether the first argument is `check`.
-fn is_check() -> bool {
+// Whether the first argument is this word.
+fn is_verb(word: &[u8; 5]) -> bool {
     let mut verb = [0u8; 8];
     let n = os::arg(1, &mut verb);
     if n != 5 {
         return false;
     }
-    verb[0] == b'c' && verb[1] == b'h' && verb[2] == b'e' && verb[3] == b'c' && verb[4] == b'k'
+    verb[0] == word[0]
+        && verb[1] == word[1]
+        && verb[2] == word[2]
+        && verb[3] == word[3]
+        && verb[4] == word[4]
 }
 
-fn check_argument(number: usize, is_one_of_several: bool) {
+fn answer_argument(number: usize, is_one_of_several: bool) {
     let mut path = io::buffer();
     let n = os::arg(number, &mut path);
     if os::errno() != 0 {
         say::words(b"a file's name is longer than a path may be\n");
         return;
     }
-    table_files::check(&path[..n], is_one_of_several);
+    if is_verb(b"depth") {
+        table_files::answer(Question::Depth, &path[..n], is_one_of_several);
+    } else {
+        table_files::answer(Question::Check, &path[..n], is_one_of_several);
+    }
+}
+
+fn is_known_verb() -> bool {
+    is_verb(b"check") || is_verb(b"depth")
 }
 
 fn main() {
@@ -41,13 +59,13 @@ fn main() {
         usage();
         return;
     }
-    if !is_check() {
+    if !is_known_verb() {
         usage();
         return;
     }
     let mut number: usize = 2;
     while number < count {
-        check_argument(number, count > 3);
+        answer_argument(number, count > 3);
         number += 1;
     }
 }

@@ -7,8 +7,14 @@ use table_file::layout;
 use table_file::layout::Pool;
 use table_file::layout::Sizes;
 use table_file::layout::Words;
+use verdict::entries;
 use verdict::file;
-use verdict::rules;
+
+// What is asked about a file's tables.
+pub enum Question {
+    Check,
+    Depth,
+}
 
 // What kept a file's text from being read, in the order of `verdict::file`'s numbers.
 fn print_file_fault(why: u32) {
@@ -43,13 +49,9 @@ fn print_fault(why: u32) {
     ));
 }
 
-// The answer, and under it what is wrong.
-fn print_answer(path: &[u8], is_one_of_several: bool, pool: &Pool, words: &Words, sizes: Sizes) {
-    if is_one_of_several {
-        say::words(path);
-        say::words(b": ");
-    }
-    let code = rules::code(pool, words, sizes);
+// The table check's code, and under it what is wrong.
+fn print_code(pool: &Pool, words: &Words, sizes: Sizes) {
+    let code = entries::code(pool, words, sizes);
     say::number(code as u64);
     say::words(b"\n");
     if code != 0 {
@@ -57,7 +59,37 @@ fn print_answer(path: &[u8], is_one_of_several: bool, pool: &Pool, words: &Words
     }
 }
 
-fn check_text(path: &[u8], is_one_of_several: bool, text: &[u8]) {
+// The depth check's code, and behind it the depth, or the place at which it is too deep. Tables that are not lawful are
+// answered as the table check answers them.
+fn print_depth(pool: &Pool, words: &Words, sizes: Sizes) {
+    let answer = entries::depth(pool, words, sizes);
+    let code = answer.code;
+    match code {
+        0 => {
+            say::words(b"0 depth ");
+            say::number(answer.depth as u64);
+        }
+        1 => {
+            print_code(pool, words, sizes);
+            return;
+        }
+        8 => {
+            say::words(b"8 place ");
+            say::number(answer.place as u64);
+        }
+        _ => say::number(code as u64),
+    }
+    say::words(b"\n");
+}
+
+fn print_answer(question: Question, pool: &Pool, words: &Words, sizes: Sizes) {
+    match question {
+        Question::Check => print_code(pool, words, sizes),
+        Question::Depth => print_depth(pool, words, sizes),
+    }
+}
+
+fn answer_text(question: Question, path: &[u8], is_one_of_several: bool, text: &[u8]) {
     let mut pool = layout::new_pool();
     let mut words = layout::new_words();
     let contents = table_file::read(text, &mut pool, &mut words);
@@ -70,11 +102,15 @@ fn check_text(path: &[u8], is_one_of_several: bool, text: &[u8]) {
         say::words(b"\n");
         return;
     }
+    if is_one_of_several {
+        say::words(path);
+        say::words(b": ");
+    }
     let sizes = contents.sizes;
-    print_answer(path, is_one_of_several, &pool, &words, sizes);
+    print_answer(question, &pool, &words, sizes);
 }
 
-pub fn check(path: &[u8], is_one_of_several: bool) {
+pub fn answer(question: Question, path: &[u8], is_one_of_several: bool) {
     let mut text = file::new_text();
     let read = file::read_text(path, &mut text);
     if read.fault != file::FINE {
@@ -84,5 +120,10 @@ pub fn check(path: &[u8], is_one_of_several: bool) {
         say::words(b"\n");
         return;
     }
-    check_text(path, is_one_of_several, file::bytes(&text, read.length));
+    answer_text(
+        question,
+        path,
+        is_one_of_several,
+        file::bytes(&text, read.length),
+    );
 }

@@ -1,4 +1,5 @@
-// What the programs over table files share: the text of a file, and the table check's answer with
-// the rules that are broken.
+// What the programs over table files share: a file's text and its lines, the entries' answers, and the rules that are broken.
+pub mod entries;
 pub mod file;
+pub mod lines;
 pub mod rules;

@@ -1,4 +1,4 @@
-// The table check over what a table file holds, and the rules by which it answers.
+// The rules of the table check, one by one, over what a table file holds.
 use table_file::layout;
 use table_file::layout::Pool;
 use table_file::layout::Sizes;
@@ -6,7 +6,6 @@ use table_file::layout::Words;
 use table_file::pool_bytes;
 use table_file::root;
 use table_file::table;
-use tables::check::table_check;
 use tables::rules::rule_at;
 use tables::rules::rule_holds_at;
 use tables::rules::rule_rows;
@@ -15,28 +14,6 @@ use tables::rules::rule_rows;
 pub enum Broken {
     At(u32),
     Nowhere,
-}
-
-// The table check's answer.
-pub fn code(pool: &Pool, words: &Words, sizes: Sizes) -> u32 {
-    table_check(
-        pool_bytes(pool, sizes),
-        table(words, sizes, layout::NAMES),
-        table(words, sizes, layout::TYPE_REFS),
-        table(words, sizes, layout::TYPES),
-        table(words, sizes, layout::MEMBERS),
-        table(words, sizes, layout::FIELDS),
-        table(words, sizes, layout::ARGUMENTS),
-        table(words, sizes, layout::SETS),
-        table(words, sizes, layout::SELECTIONS),
-        table(words, sizes, layout::GIVEN),
-        table(words, sizes, layout::FRAGMENTS),
-        table(words, sizes, layout::NODES),
-        table(words, sizes, layout::LITERALS),
-        table(words, sizes, layout::VARIABLES),
-        table(words, sizes, layout::ANSWERS),
-        root(words, sizes),
-    )
 }
 
 fn rows(rule: u32, pool: &Pool, words: &Words, sizes: Sizes) -> u32 {

@@ -19,8 +19,8 @@ usage-requires c κs = search needs
 returns : tie.Need-returns Inv-loop μ-loop
 returns c = search needs
 
-is-check-requires : tie.Need-is-check-requires Inv-loop μ-loop
-is-check-requires c κs = search needs
+is-known-verb-requires : tie.Need-is-known-verb-requires Inv-loop μ-loop
+is-known-verb-requires c κs = search needs
 
 usage-requires-2 : tie.Need-usage-requires-2 Inv-loop μ-loop
 usage-requires-2 c κs = search needs
@@ -31,8 +31,8 @@ returns-2 c = search needs
 loop-holds : tie.Need-loop-holds Inv-loop μ-loop
 loop-holds c = search needs
 
-check-argument-requires : tie.Need-check-argument-requires Inv-loop μ-loop
-check-argument-requires c κs = search needs
+answer-argument-requires : tie.Need-answer-argument-requires Inv-loop μ-loop
+answer-argument-requires c κs = search needs
 
 add-number : tie.Need-add-number Inv-loop μ-loop
 add-number c = search needs
@@ -55,11 +55,11 @@ main-spec =
     arg-count-requires
     usage-requires
     returns
-    is-check-requires
+    is-known-verb-requires
     usage-requires-2
     returns-2
     loop-holds
-    check-argument-requires
+    answer-argument-requires
     add-number
     loop-less
     loop-again

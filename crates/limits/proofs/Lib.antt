@@ -1,0 +1,3 @@
+-- Each table, by computation.
+pub mod Runs
+pub mod Depths

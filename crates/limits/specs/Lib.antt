@@ -1,0 +1,3 @@
+-- Both sides of each limit, by worked runs and by worked depth checks.
+pub mod Runs
+pub mod Depths

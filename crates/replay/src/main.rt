@@ -1,0 +1,84 @@
+// Replays recorded cases: for each case of a file its label, and the depth check's code, depth and place.
+mod cases;
+
+use cases::next_case;
+use libc::STDOUT_FILENO;
+use table_file::fault;
+use table_file::layout;
+use verdict::entries;
+use verdict::file;
+use verdict::lines::line_end;
+
+fn say(text: &[u8]) {
+    io::write_all(STDOUT_FILENO, text);
+}
+
+fn say_number(n: u32) {
+    io::print_decimal(STDOUT_FILENO, n as u64);
+}
+
+fn answer_tables(text: &[u8]) {
+    let mut pool = layout::new_pool();
+    let mut words = layout::new_words();
+    let contents = table_file::read(text, &mut pool, &mut words);
+    if contents.fault != fault::FINE {
+        say(b"is no table file: line ");
+        io::print_decimal(STDOUT_FILENO, contents.line as u64);
+        return;
+    }
+    let sizes = contents.sizes;
+    let answer = entries::depth(&pool, &words, sizes);
+    say_number(answer.code);
+    say(b" ");
+    say_number(answer.depth);
+    say(b" ");
+    say_number(answer.place);
+}
+
+// What stands behind `@ ` on a case's first line.
+fn label(line: &[u8]) -> &[u8] {
+    if line.len() < 2 {
+        return line;
+    }
+    &line[2..]
+}
+
+// A case is a line, `@ ` and a label, and then a table file.
+fn answer_case(case: &[u8]) {
+    let end = line_end(case, 0);
+    say(label(&case[0..end]));
+    say(b": ");
+    answer_tables(&case[end..]);
+    say(b"\n");
+}
+
+fn replay(text: &[u8]) {
+    let mut at = next_case(text, 0);
+    while at < text.len() {
+        let next = next_case(text, at + 1);
+        answer_case(&text[at..next]);
+        at = next;
+    }
+}
+
+fn replay_argument(number: usize) {
+    let mut path = io::buffer();
+    let n = os::arg(number, &mut path);
+    let mut text = file::new_text();
+    let read = file::read_text(&path[..n], &mut text);
+    if read.fault != file::FINE {
+        say(&path[..n]);
+        say(b" cannot be read\n");
+        return;
+    }
+    replay(file::bytes(&text, read.length));
+}
+
+fn main() {
+    let count = os::arg_count();
+    let mut number: usize = 1;
+    while number < count {
+        replay_argument(number);
+        number += 1;
+    }
+}

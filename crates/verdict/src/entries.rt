@@ -1,0 +1,55 @@
+// The public entries over what a table file holds.
+use introspection::max_depth::DepthAnswer;
+use introspection::max_depth::depth_check;
+use table_file::layout;
+use table_file::layout::Pool;
+use table_file::layout::Sizes;
+use table_file::layout::Words;
+use table_file::pool_bytes;
+use table_file::root;
+use table_file::table;
+use tables::check::table_check;
+
+// The table check's answer.
+pub fn code(pool: &Pool, words: &Words, sizes: Sizes) -> u32 {
+    table_check(
+        pool_bytes(pool, sizes),
+        table(words, sizes, layout::NAMES),
+        table(words, sizes, layout::TYPE_REFS),
+        table(words, sizes, layout::TYPES),
+        table(words, sizes, layout::MEMBERS),
+        table(words, sizes, layout::FIELDS),
+        table(words, sizes, layout::ARGUMENTS),
+        table(words, sizes, layout::SETS),
+        table(words, sizes, layout::SELECTIONS),
+        table(words, sizes, layout::GIVEN),
+        table(words, sizes, layout::FRAGMENTS),
+        table(words, sizes, layout::NODES),
+        table(words, sizes, layout::LITERALS),
+        table(words, sizes, layout::VARIABLES),
+        table(words, sizes, layout::ANSWERS),
+        root(words, sizes),
+    )
+}
+
+// The depth check's answer.
+pub fn depth(pool: &Pool, words: &Words, sizes: Sizes) -> DepthAnswer {
+    depth_check(
+        pool_bytes(pool, sizes),
+        table(words, sizes, layout::NAMES),
+        table(words, sizes, layout::TYPE_REFS),
+        table(words, sizes, layout::TYPES),
+        table(words, sizes, layout::MEMBERS),
+        table(words, sizes, layout::FIELDS),
+        table(words, sizes, layout::ARGUMENTS),
+        table(words, sizes, layout::SETS),
+        table(words, sizes, layout::SELECTIONS),
+        table(words, sizes, layout::GIVEN),
+        table(words, sizes, layout::FRAGMENTS),
+        table(words, sizes, layout::NODES),
+        table(words, sizes, layout::LITERALS),
+        table(words, sizes, layout::VARIABLES),
+        table(words, sizes, layout::ANSWERS),
+        root(words, sizes),
+    )
+}

@@ -1,0 +1,2 @@
+-- The table of worked runs, by computation.
+pub mod Runs
