@@ -1,4 +1,5 @@
 pub mod Cells
 pub mod Every
+pub mod Marks
 pub mod Reserved
 pub mod Same

@@ -3,6 +3,7 @@ pub mod Ascii
 pub mod Document
 pub mod Json
 pub mod Layout
+pub mod Marks
 pub mod Names
 pub mod Rows
 pub mod Schema

@@ -1,8 +1,9 @@
 // What every table has: rows of a fixed width, words in columns, and ranges of rows.
 ghost use mathlib.Core.Path.{_≡_};
 ghost use mathlib.Core.Bool.{_&&_, _||_};
-ghost use Prim.Native.Nat.{_≤_, _<_, _^_};
+ghost use Prim.Native.Nat.{_+_, _≤_, _<_, _^_};
 ghost use Rattle.rows.specs.Rows.{rowsOf, cell as Rows·cell, isRow, within, later, counted, other, isNew, distinct, optionOf, rowOrNone};
+ghost use Rattle.rows.specs.Marks.{Met};
 
 // Rows that follow one another.
 pub struct Range {
@@ -125,6 +126,31 @@ pub(crate) fn is_new(t: &[u32], width: usize, column: usize, first: u32, i: u32)
     true
 }
 
+// Whether the word of row first + i is new, as `is_new` says it. A word below 512 is marked here once it is met, so its mark tells;
+// names have such words, and they are most of what is asked. A larger word is looked for.
+fn is_new_by_marks(
+    t: &[u32],
+    width: usize,
+    column: usize,
+    first: u32,
+    i: u32,
+    marks: &mut [u8],
+) -> bool
+    requires { ⌜ (width ≤ 16) × (column < 16) ⌝ }
+    requires { ⌜ Met (now t) width column first i (now marks) ⌝ }
+    ensures { λ r. ⌜ r ≡ isNew (now (t .entry)) width column first i ⌝ }
+    ensures { λ _. ⌜ Met (now (t .entry)) width column first (i + 1) (now (marks .exit)) ⌝ }
+{
+    let word = cell(t, width, (first as usize) + (i as usize), column);
+    if word < 512 {
+        let at = word as usize;
+        let mark = marks[at];
+        marks[at] = 1;
+        return mark == 0;
+    }
+    is_new(t, width, column, first, i)
+}
+
 // No two rows of the range have the same word in the column.
 pub(crate) fn is_distinct(t: &[u32], width: usize, column: usize, rows: Range) -> bool
     requires { ⌜ (width ≤ 16) × (column < 16) ⌝ }
@@ -132,9 +158,10 @@ pub(crate) fn is_distinct(t: &[u32], width: usize, column: usize, rows: Range) -
 {
     let first = rows.first;
     let count = rows.count;
+    let mut marks = [0u8; 512];
     let mut i: u32 = 0;
     while i < count {
-        if !is_new(t, width, column, first, i) {
+        if !is_new_by_marks(t, width, column, first, i, &mut marks) {
             return false;
         }
         i += 1;

@@ -1,29 +1,33 @@
--- Each row passed is new; one that is not ends the search. Assumes nothing.
+-- Each row passed is new, and its word is marked; a row that is not new ends the search. Assumes nothing.
 use mathlib.Core.Path.{_≡_}
 use mathlib.Core.Bool.{true}
-use Prim.Native.Nat.{_≤_, _-_, _+_}
+use Prim.Native.Nat.{_≤_, _-_}
 use borrow.Author.Needs.{needs}
 use Rattle.rows.specs.Rows.{all, isNew, distinct}
-use Rattle.rows.proofs.Every.{every}
-use borrow.Author.Needs.{needs}
+use Rattle.rows.specs.Marks.{Met}
+use Rattle.rows.proofs.Every.{all-none, all-more, all-broken, all-ended}
+use Rattle.rows.proofs.Marks.{met-none}
 use Rattle.rows.proofs.layout.is_distinct.Statement.{statement}
 use Rattle.rows.proofs.layout.is_distinct.Tie as tie
 
 abbrev Inv-loop : tie.InvT-loop
-Inv-loop t width column first count i₀ i = (i ≤ count) × (all (isNew t width column first) i ≡ true)
+Inv-loop t width column first count marks₀ i₀ marks i = (i ≤ count) × (all (isNew t width column first) i ≡ true) × Met t width column first i marks
 
 abbrev μ-loop : tie.MeasureT-loop
-μ-loop t width column first count i₀ i = count - i
+μ-loop t width column first count marks₀ i₀ marks i = count - i
 
 loop-holds : tie.Need-loop-holds Inv-loop μ-loop
-loop-holds c = (search needs, search every)
+loop-holds c = (search needs, all-none _, met-none _ _ _ _)
 
-is-new-requires : tie.Need-is-new-requires Inv-loop μ-loop
-is-new-requires c κs = search needs
+slice-aggregate-is-new-by-marks : tie.Need-slice-aggregate-is-new-by-marks Inv-loop μ-loop
+slice-aggregate-is-new-by-marks c = search needs
+
+is-new-by-marks-requires : tie.Need-is-new-by-marks-requires Inv-loop μ-loop
+is-new-by-marks-requires c κs = (search needs, search needs)
 
 returns : tie.Need-returns Inv-loop μ-loop
 unfolding distinct
-returns c = search (every, needs)
+returns c = all-broken _ (c .before .before .before .before .before .loop .i) _ (c .before .before .is-new-by-marks .result) (c .before .before .before .before .loop-test .taken) (c .before .before .is-new-by-marks .ensures .0) (c .if1 .taken)
 
 add-i : tie.Need-add-i Inv-loop μ-loop
 add-i c = search needs
@@ -32,11 +36,11 @@ loop-less : tie.Need-loop-less Inv-loop μ-loop
 loop-less c = search needs
 
 loop-again : tie.Need-loop-again Inv-loop μ-loop
-loop-again c = (search needs, search (every, needs))
+loop-again c = (search needs, all-more _ (c .before .before .before .before .before .loop .i) (c .before .before .is-new-by-marks .result) (c .before .before .before .before .before .loop .inv .1) (c .before .before .is-new-by-marks .ensures .0) (c .if1 .left), (c .before .before .is-new-by-marks .ensures .1))
 
 returns-2 : tie.Need-returns-2 Inv-loop μ-loop
 unfolding distinct
-returns-2 c = search (every, needs)
+returns-2 c = all-ended _ (c .before .loop .i) _ (c .before .loop .inv .1) (c .before .loop .inv .0) (c .loop-test .left)
 
 pub is-distinct-spec : {M : Type 1} → statement M
 is-distinct-spec =
@@ -45,7 +49,8 @@ is-distinct-spec =
     Inv-loop
     μ-loop
     loop-holds
-    is-new-requires
+    slice-aggregate-is-new-by-marks
+    is-new-by-marks-requires
     returns
     add-i
     loop-less
