@@ -3,3 +3,4 @@ pub mod Every
 pub mod Marks
 pub mod Reserved
 pub mod Same
+pub mod Since

@@ -2,6 +2,7 @@ pub mod Answers
 pub mod Ascii
 pub mod Document
 pub mod Json
+pub mod Keys
 pub mod Layout
 pub mod Marks
 pub mod Names

@@ -1,7 +1,7 @@
 // JSON nodes, literals and the values of variables.
 ghost use mathlib.Core.Path.{_≡_};
 ghost use Prim.Native.Nat.{_<_, _^_};
-ghost use Rattle.rows.specs.Json.{nodeOf, nodeAt, nodeKey, isNegative, nodeLawful, nodeRow, nodeKeyRow, otherKey, keyNew, keysDistinct, keysLawful, nodeKeysDiffer, literalOf, literalAt, literalPlace, literalKey, literalLawful, literalRow, literalParts, literalKeysDiffer, variableAt, variableRow, variableNameNew, isNodeRow, isLiteralRow};
+ghost use Rattle.rows.specs.Json.{nodeOf, nodeAt, nodeKey, isNegative, nodeLawful, nodeRow, nodeKeyRow, literalOf, literalAt, literalPlace, literalKey, literalLawful, literalRow, literalParts, literalKeysDiffer, variableAt, variableRow, variableNameNew, isNodeRow, isLiteralRow};
 use crate::layout::Range;
 use crate::layout::both;
 use crate::layout::cell;
@@ -12,9 +12,7 @@ use crate::layout::is_row;
 use crate::names::is_name_row;
 use crate::strings::Text;
 use crate::strings::is_float_text;
-use crate::strings::is_same;
 use crate::strings::is_string;
-use crate::strings::text_of;
 
 pub const NODE_WIDTH: usize = 5;
 
@@ -136,69 +134,6 @@ pub fn node_key_row(pool: &[u8], nodes: &[u32], row: u32) -> bool
     ensures { λ r. ⌜ r ≡ nodeKeyRow (now (pool .entry)) (now (nodes .entry)) row ⌝ }
 {
     is_string(pool, node_key(nodes, row as usize))
-}
-
-fn is_other_key(pool: &[u8], nodes: &[u32], one: usize, two: usize) -> bool
-    requires { ⌜ (one < 2 ^ 40) × (two < 2 ^ 40) ⌝ }
-    ensures { λ r. ⌜ r ≡ otherKey (now (pool .entry)) (now (nodes .entry)) one two ⌝ }
-{
-    let a = text_of(pool, node_key(nodes, one));
-    let b = text_of(pool, node_key(nodes, two));
-    !is_same(a, b)
-}
-
-// The key of row first + i is the key of none of the i rows from first on.
-fn is_new_key(pool: &[u8], nodes: &[u32], first: u32, i: u32) -> bool
-    ensures { λ r. ⌜ r ≡ keyNew (now (pool .entry)) (now (nodes .entry)) first i ⌝ }
-{
-    let from = first as usize;
-    let row = from + (i as usize);
-    let mut j: u32 = 0;
-    while j < i {
-        if !is_other_key(pool, nodes, row, from + (j as usize)) {
-            return false;
-        }
-        j += 1;
-    }
-    true
-}
-
-fn keys_are_distinct(pool: &[u8], nodes: &[u32], rows: Range) -> bool
-    ensures { λ r. ⌜ r ≡ keysDistinct (now (pool .entry)) (now (nodes .entry)) rows ⌝ }
-{
-    let first = rows.first;
-    let count = rows.count;
-    let mut i: u32 = 0;
-    while i < count {
-        if !is_new_key(pool, nodes, first, i) {
-            return false;
-        }
-        i += 1;
-    }
-    true
-}
-
-fn keys_are_lawful(pool: &[u8], nodes: &[u32], node: Node) -> bool
-    ensures { λ r. ⌜ r ≡ keysLawful (now (pool .entry)) (now (nodes .entry)) node ⌝ }
-{
-    match node {
-        Node::Null => true,
-        Node::False => true,
-        Node::True => true,
-        Node::Natural { low: _, high: _ } => true,
-        Node::Negative { low: _, high: _ } => true,
-        Node::Float(_) => true,
-        Node::String(_) => true,
-        Node::Array(_) => true,
-        Node::Object(rows) => keys_are_distinct(pool, nodes, rows),
-        Node::Unknown => true,
-    }
-}
-
-pub fn node_keys_differ(pool: &[u8], nodes: &[u32], row: u32) -> bool
-    ensures { λ r. ⌜ r ≡ nodeKeysDiffer (now (pool .entry)) (now (nodes .entry)) row ⌝ }
-{
-    keys_are_lawful(pool, nodes, node_at(nodes, row))
 }
 
 fn literal_of(kind: u32, a: u32, b: u32) -> Literal

@@ -6,6 +6,7 @@
 pub mod answers;
 pub mod document;
 pub mod json;
+pub mod keys;
 pub mod layout;
 pub mod names;
 pub mod schema;

@@ -25,10 +25,11 @@ use rows::json::VARIABLE_WIDTH;
 use rows::json::literal_keys_differ;
 use rows::json::literal_row;
 use rows::json::node_key_row;
-use rows::json::node_keys_differ;
 use rows::json::node_row;
 use rows::json::variable_name_is_new;
 use rows::json::variable_row;
+use rows::keys::all_node_keys_differ;
+use rows::keys::node_keys_differ;
 use rows::layout::is_counted;
 use rows::layout::row_count;
 use rows::names::NAME_WIDTH;
@@ -52,6 +53,9 @@ use rows::schema::type_ref_row;
 use rows::schema::type_row;
 
 pub const RULE_COUNT: u32 = 46;
+
+// The number of `ValueRule::NodeKeysDiffer`.
+const NODE_KEYS_DIFFER: u32 = 38;
 
 // How many rows a table has.
 pub enum SizeRule {
@@ -581,6 +585,7 @@ fn rule_holds(
     true
 }
 
+// Objects may share their children, so the rule on their keys is looked at for all nodes at once and not row by row.
 fn rule_number_holds(
     k: u32,
     pool: &[u8],
@@ -602,6 +607,9 @@ fn rule_number_holds(
 ) -> bool
     ensures { λ r. ⌜ r ≡ obeyed (ruleAt k) (tables (now (pool .entry)) (now (names .entry)) (now («type_refs» .entry)) (now (types .entry)) (now (members .entry)) (now (fields .entry)) (now (arguments .entry)) (now (sets .entry)) (now (selections .entry)) (now (given .entry)) (now (fragments .entry)) (now (nodes .entry)) (now (literals .entry)) (now (variables .entry)) (now (answers .entry)) root) ⌝ }
 {
+    if k == NODE_KEYS_DIFFER {
+        return all_node_keys_differ(pool, nodes);
+    }
     rule_holds(
         rule_at(k),
         pool,

@@ -1,7 +1,7 @@
 -- Each part is what its callee ensures. Assumes nothing.
 use borrow.Author.Needs.{needs}
-use Rattle.rows.proofs.json.is_other_key.Statement.{statement}
-use Rattle.rows.proofs.json.is_other_key.Tie as tie
+use Rattle.rows.proofs.keys.is_other_key.Statement.{statement}
+use Rattle.rows.proofs.keys.is_other_key.Tie as tie
 
 node-key-requires : tie.Need-node-key-requires
 node-key-requires c κs = search needs

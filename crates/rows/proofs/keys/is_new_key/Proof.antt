@@ -7,8 +7,8 @@ use Rattle.rows.specs.Rows.{all}
 use Rattle.rows.specs.Json.{otherKey, keyNew}
 use Rattle.rows.proofs.Every.{every}
 use borrow.Author.Needs.{needs}
-use Rattle.rows.proofs.json.is_new_key.Statement.{statement}
-use Rattle.rows.proofs.json.is_new_key.Tie as tie
+use Rattle.rows.proofs.keys.is_new_key.Statement.{statement}
+use Rattle.rows.proofs.keys.is_new_key.Tie as tie
 
 abbrev Inv-loop : tie.InvT-loop
 Inv-loop pool nodes first i from row j₀ j = (j ≤ i) × (all (λ k. otherKey pool nodes (first + i) (first + k)) j ≡ true)

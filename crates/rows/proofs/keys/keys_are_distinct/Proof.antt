@@ -7,8 +7,8 @@ use Rattle.rows.specs.Rows.{all}
 use Rattle.rows.specs.Json.{keyNew, keysDistinct}
 use Rattle.rows.proofs.Every.{every}
 use borrow.Author.Needs.{needs}
-use Rattle.rows.proofs.json.keys_are_distinct.Statement.{statement}
-use Rattle.rows.proofs.json.keys_are_distinct.Tie as tie
+use Rattle.rows.proofs.keys.keys_are_distinct.Statement.{statement}
+use Rattle.rows.proofs.keys.keys_are_distinct.Tie as tie
 
 abbrev Inv-loop : tie.InvT-loop
 Inv-loop pool nodes first count i₀ i = (i ≤ count) × (all (keyNew pool nodes first) i ≡ true)

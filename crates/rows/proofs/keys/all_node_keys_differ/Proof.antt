@@ -1,0 +1,88 @@
+-- The keys of the nodes passed differ; a node whose keys do not ends the search. Assumes nothing.
+use mathlib.Core.Path.{_≡_}
+use mathlib.Core.Bool.{true}
+use Prim.Native.Nat.{_≤_, _-_}
+use borrow.Author.Needs.{needs}
+use Rattle.rows.specs.Rows.{all}
+use Rattle.rows.specs.Json.{nodeAt, nodeKeysDiffer}
+use Rattle.rows.proofs.Every.{all-none, all-more, all-broken, all-ended}
+use Rattle.rows.proofs.Since.{hashed-none, since-none, object-keys}
+use Rattle.rows.proofs.keys.all_node_keys_differ.Statement.{statement}
+use Rattle.rows.proofs.keys.all_node_keys_differ.Tie as tie
+
+abbrev Inv-loop : tie.InvT-loop
+Inv-loop pool nodes rows since known row₀ row = (row ≤ rows) × (all (nodeKeysDiffer pool nodes) row ≡ true)
+
+abbrev μ-loop : tie.MeasureT-loop
+μ-loop pool nodes rows since known row₀ row = rows - row
+
+row-count-requires : tie.Need-row-count-requires Inv-loop μ-loop
+row-count-requires c κs = search needs
+
+slice-aggregate-note-keys : tie.Need-slice-aggregate-note-keys Inv-loop μ-loop
+slice-aggregate-note-keys c = search needs
+
+slice-aggregate-note-keys-2 : tie.Need-slice-aggregate-note-keys-2 Inv-loop μ-loop
+slice-aggregate-note-keys-2 c = search needs
+
+note-keys-requires : tie.Need-note-keys-requires Inv-loop μ-loop
+note-keys-requires c κs = (hashed-none _ _, since-none _ _)
+
+loop-holds : tie.Need-loop-holds Inv-loop μ-loop
+loop-holds c = (search needs, all-none _)
+
+slice-aggregate-are-distinct-by-note :
+    tie.Need-slice-aggregate-are-distinct-by-note Inv-loop μ-loop
+slice-aggregate-are-distinct-by-note c = search needs
+
+node-at-requires : tie.Need-node-at-requires Inv-loop μ-loop
+node-at-requires c κs = search needs
+
+object-rows-requires : tie.Need-object-rows-requires Inv-loop μ-loop
+object-rows-requires c κs = search needs
+
+are-distinct-by-note-requires : tie.Need-are-distinct-by-note-requires Inv-loop μ-loop
+are-distinct-by-note-requires c κs = c .before .before .before .before .before .before .before .note-keys .ensures
+
+-- the answer at a node
+answer : (c : tie.After-are-distinct-by-note Inv-loop μ-loop)
+    → c .are-distinct-by-note .result ≡ nodeKeysDiffer (c .before .before .before .before .before .before .before .before .before .before .before .before .before .before .args .pool .now) (c .before .before .before .before .before .before .before .before .before .before .before .before .before .before .args .nodes .now) (c .before .before .before .before .before .loop .row)
+answer c =
+    rw (c .are-distinct-by-note .ensures, c .before .object-rows .ensures, c .before .before .node-at .ensures)
+    (object-keys _ _ (nodeAt (c .before .before .before .before .before .before .before .before .before .before .before .before .before .before .args .nodes .now) (c .before .before .before .before .before .loop .row)))
+
+returns : tie.Need-returns Inv-loop μ-loop
+returns c = rw (← (c .before .before .before .before .before .before .before .before .before .before .before .before .row-count .ensures)) (all-broken _ (c .before .before .before .before .before .before .loop .row) _ (c .before .are-distinct-by-note .result) (c .before .before .before .before .before .loop-test .taken) (answer (c .before)) (c .if1 .taken))
+
+add-row : tie.Need-add-row Inv-loop μ-loop
+add-row c = search needs
+
+loop-less : tie.Need-loop-less Inv-loop μ-loop
+loop-less c = search needs
+
+loop-again : tie.Need-loop-again Inv-loop μ-loop
+loop-again c = (search needs, all-more _ (c .before .before .before .before .before .before .loop .row) (c .before .are-distinct-by-note .result) (c .before .before .before .before .before .before .loop .inv .1) (answer (c .before)) (c .if1 .left))
+
+returns-2 : tie.Need-returns-2 Inv-loop μ-loop
+returns-2 c = rw (← (c .before .before .before .before .before .before .before .row-count .ensures)) (all-ended _ (c .before .loop .row) _ (c .before .loop .inv .1) (c .before .loop .inv .0) (c .loop-test .left))
+
+pub all-node-keys-differ-spec : {M : Type 1} → statement M
+all-node-keys-differ-spec =
+    tie.close
+    (tie.spec
+    Inv-loop
+    μ-loop
+    row-count-requires
+    slice-aggregate-note-keys
+    slice-aggregate-note-keys-2
+    note-keys-requires
+    loop-holds
+    slice-aggregate-are-distinct-by-note
+    node-at-requires
+    object-rows-requires
+    are-distinct-by-note-requires
+    returns
+    add-row
+    loop-less
+    loop-again
+    returns-2)

@@ -1,0 +1,50 @@
+-- What `all_node_keys_differ` keeps while it goes through the nodes. What it says of them is `keysDistinct` and `nodeKeysDiffer` of Json.
+use mathlib.Core.Path.{_≡_}
+use mathlib.Core.Bool.{true, false}
+use mathlib.Core.List.{List, [], _∷_}
+use Prim.Native.Nat.{ℕ, _+_, _*_, _-_, _%_, _≤_, _<_}
+use lib.ListN.{length, getD}
+use lib.Dec.{leb}
+use Rattle.rows.specs.Strings.{textOf}
+use Rattle.rows.specs.Json.{nodeKey, otherKey, keysDistinct}
+use Rattle.rows.specs.declared.layout.Range.{Range}
+use Rattle.rows.specs.declared.json.Node.{Node}
+use Rattle.rows.specs.declared.json.Node.the-variants as node
+
+-- the children of an object; no rows of any other node
+abbrev pub objectRows : Node → Range
+objectRows node.Null = record { first = 0; count = 0 }
+objectRows node.False = record { first = 0; count = 0 }
+objectRows node.True = record { first = 0; count = 0 }
+objectRows (node.Natural low high) = record { first = 0; count = 0 }
+objectRows (node.Negative low high) = record { first = 0; count = 0 }
+objectRows (node.Float text) = record { first = 0; count = 0 }
+objectRows (node.String text) = record { first = 0; count = 0 }
+objectRows (node.Array rows) = record { first = 0; count = 0 }
+objectRows (node.Object rows) = rows
+objectRows node.Unknown = record { first = 0; count = 0 }
+
+-- a number below 65,536 that equal bytes have in common
+unfoldable pub hashFrom : ℕ → List ℕ → ℕ
+hashFrom hash [] = hash
+hashFrom hash (b ∷ bytes) = hashFrom ((hash * 31 + b) % 65536) bytes
+
+abbrev pub keyHash : List ℕ → List ℕ → ℕ → ℕ
+keyHash pool nodes row = hashFrom 0 (textOf pool (nodeKey nodes row))
+
+-- the hashes of the keys of the rows below count
+pub record Hashed (pool nodes : List ℕ) (count : ℕ) (hashes : List ℕ) : Type 0 where
+  pub sized : length hashes ≡ 4096
+  pub hashed : (row : ℕ) → row < count → getD hashes row 0 ≡ keyHash pool nodes row
+
+-- for each end up to count, since when the keys differ: those of the rows from first to before end do exactly if first is no less
+pub record Since (pool nodes : List ℕ) (count : ℕ) (since : List ℕ) : Type 0 where
+  pub sized : length since ≡ 4097
+  pub told : (end first : ℕ) → end ≤ count → first ≤ end → keysDistinct pool nodes (record { first = first; count = end - first }) ≡ leb (getD since end 0) first
+
+-- r is the row after the last one of from to row that has the key of row, and from where none has it
+pub record AfterLast (pool nodes : List ℕ) (from row r : ℕ) : Type 0 where
+  pub low : from ≤ r
+  pub high : r ≤ row
+  pub others : (k : ℕ) → r ≤ k → k < row → otherKey pool nodes row k ≡ true
+  pub last : from < r → otherKey pool nodes row (r - 1) ≡ false
