@@ -1,7 +1,15 @@
--- The rule is the one that `rule_at` gives. Assumes nothing.
+-- The rule is the one that `rule_at` gives; the 38th is the one that `all_node_keys_differ` answers for every node. Assumes nothing.
 use borrow.Author.Needs.{needs}
+use Rattle.tables.specs.Rules.{ruleAt, obeyed}
 use Rattle.tables.proofs.rules.rule_number_holds.Statement.{statement}
 use Rattle.tables.proofs.rules.rule_number_holds.Tie as tie
+
+all-node-keys-differ-requires : tie.Need-all-node-keys-differ-requires
+all-node-keys-differ-requires c κs = search needs
+
+returns : tie.Need-returns
+unfolding ruleAt obeyed
+returns c = rw (c .before .if1 .taken) (c .all-node-keys-differ .ensures)
 
 rule-at-requires : tie.Need-rule-at-requires
 rule-at-requires c κs = search needs
@@ -9,8 +17,15 @@ rule-at-requires c κs = search needs
 rule-holds-requires : tie.Need-rule-holds-requires
 rule-holds-requires c κs = search needs
 
-returns : tie.Need-returns
-returns c = rw (c .rule-holds .ensures, c .before .rule-at .ensures)
+returns-2 : tie.Need-returns-2
+returns-2 c = rw (c .rule-holds .ensures, c .before .rule-at .ensures)
 
 pub rule-number-holds-spec : {M : Type 1} → statement M
-rule-number-holds-spec = tie.close (tie.spec rule-at-requires rule-holds-requires returns)
+rule-number-holds-spec =
+    tie.close
+    (tie.spec
+    all-node-keys-differ-requires
+    returns
+    rule-at-requires
+    rule-holds-requires
+    returns-2)
