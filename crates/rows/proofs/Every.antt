@@ -58,6 +58,12 @@ all-at p i n h a = go (p i) refl
     go true e = e
     go false e = absurd (true≢false (sym a ∙ below-all p i n h e))
 
+-- what holds of each holds of all
+pub all-each : (p : ℕ → Bool) (n : ℕ) → ((i : ℕ) → i < n → p i ≡ true) → all p n ≡ true
+unfolding all
+all-each p zero h = refl
+all-each p (suc n) h = rw (all-each p n (λ i l. h i (omega arith)), h n (omega arith))
+
 -- two tests that agree below n
 pub all-same : (p q : ℕ → Bool) (n : ℕ) → ((i : ℕ) → i < n → p i ≡ q i) → all p n ≡ all q n
 unfolding all

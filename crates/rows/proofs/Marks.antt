@@ -1,6 +1,6 @@
 -- How the marks of the words met follow the rows: none at first, and with each row its word. Assumes nothing.
-use mathlib.Core.Path.{_≡_, refl, sym, ap, _∙_}
-use mathlib.Core.Bool.{Bool, true, false, not, _&&_}
+use mathlib.Core.Path.{_≡_, refl, sym, _∙_}
+use mathlib.Core.Bool.{Bool, true, false, not, _&&_, and-true}
 use mathlib.Core.List.{List}
 use Prim.Native.Nat.{ℕ, _+_, _≤_, _<_}
 use native.Mathlib.Numerals.{add-one}
@@ -12,10 +12,6 @@ use borrow.Author.Tests.{eqb-true, eqb-false, eq-eqb, ne-eqb}
 use Rattle.rows.specs.Rows.{all, cell, isNew}
 use Rattle.rows.specs.Marks.{unmet, Met}
 use Rattle.rows.proofs.Every.{and-false}
-
-and-true : (b : Bool) → (b && true) ≡ b
-and-true true = refl
-and-true false = refl
 
 module _ (t : List ℕ) (width column first : ℕ) where
   -- a word that is met, and one that is another than the row's

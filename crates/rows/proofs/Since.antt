@@ -1,9 +1,9 @@
 -- Why a hash tells keys apart, and why one number for each end answers for every range that ends there: the keys of a range that is
 -- longer at its start differ at most where those of the shorter one do. Assumes nothing.
-use mathlib.Core.Path.{_≡_, refl, sym, ap, _∙_}
-use mathlib.Core.Bool.{Bool, true, false, not, _&&_, true≢false, false≢true}
+use mathlib.Core.Path.{_≡_, refl, sym, _∙_}
+use mathlib.Core.Bool.{Bool, true, false, not, _&&_, false≢true}
 use mathlib.Core.List.{List, [], _∷_}
-use Prim.Native.Nat.{ℕ, zero, suc, _+_, _*_, _-_, _%_, _≤_, _<_}
+use Prim.Native.Nat.{ℕ, _+_, _*_, _-_, _%_, _≤_, _<_}
 use native.Mathlib.Nat.{add-sub-cancel-left}
 use native.Mathlib.Decide.{decLe}
 use native.Mathlib.Numerals.{add-one}
@@ -19,12 +19,7 @@ use Rattle.rows.specs.Keys.{objectRows, hashFrom, keyHash, Hashed, Since
 use Rattle.rows.specs.declared.layout.Range.{Range}
 use Rattle.rows.specs.declared.json.Node.{Node}
 use Rattle.rows.specs.declared.json.Node.the-variants as node
-use Rattle.rows.proofs.Every.{and-false, and-left, and-right, all-none, all-broken}
-
-all-each : (p : ℕ → Bool) (n : ℕ) → ((i : ℕ) → i < n → p i ≡ true) → all p n ≡ true
-unfolding all
-all-each p zero h = refl
-all-each p (suc n) h = rw (all-each p n (λ i l. h i (omega arith)), h n (omega arith))
+use Rattle.rows.proofs.Every.{and-left, and-right, all-none, all-broken, all-each}
 
 -- the same bytes have the same hash
 hash-same : (a b : List ℕ) (hash : ℕ) → same a b ≡ true → hashFrom hash a ≡ hashFrom hash b

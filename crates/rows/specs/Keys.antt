@@ -37,12 +37,12 @@ pub record Hashed (pool nodes : List ℕ) (count : ℕ) (hashes : List ℕ) : Ty
   pub sized : length hashes ≡ 4096
   pub hashed : (row : ℕ) → row < count → getD hashes row 0 ≡ keyHash pool nodes row
 
--- for each end up to count, since when the keys differ: those of the rows from first to before end do exactly if first is no less
+-- for each end up to count a row: the keys of the rows from first to before end differ exactly if first is that row or a later one
 pub record Since (pool nodes : List ℕ) (count : ℕ) (since : List ℕ) : Type 0 where
   pub sized : length since ≡ 4097
   pub told : (end first : ℕ) → end ≤ count → first ≤ end → keysDistinct pool nodes (record { first = first; count = end - first }) ≡ leb (getD since end 0) first
 
--- r is the row after the last one of from to row that has the key of row, and from where none has it
+-- r is the row after the last one from `from` on and before `row` that has the key of `row`, and `from` where none has it
 pub record AfterLast (pool nodes : List ℕ) (from row r : ℕ) : Type 0 where
   pub low : from ≤ r
   pub high : r ≤ row

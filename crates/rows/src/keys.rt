@@ -74,6 +74,7 @@ pub fn node_keys_differ(pool: &[u8], nodes: &[u32], row: u32) -> bool
     keys_are_distinct(pool, nodes, object_rows(node_at(nodes, row)))
 }
 
+// Equal bytes have equal hashes; 16 bits are few enough to keep one for each node.
 fn hash_of(bytes: &[u8]) -> u16
     ensures { λ r. ⌜ r ≡ hashFrom 0 (now (bytes .entry)) ⌝ }
 {
@@ -98,7 +99,7 @@ fn is_other_hashed(pool: &[u8], nodes: &[u32], hashes: &[u16], one: usize, two: 
     is_other_key(pool, nodes, one, two)
 }
 
-// The row after the last one of `from` to `row` that has the key of `row`; `from` where none has it.
+// The row after the last one from `from` on and before `row` that has the key of `row`; `from` where none has it.
 fn after_last_same(pool: &[u8], nodes: &[u32], hashes: &[u16], from: usize, row: usize) -> usize
     requires { ⌜ (row < 4096) × (from ≤ row) ⌝ }
     requires { ⌜ Hashed (now pool) (now nodes) (row + 1) (now hashes) ⌝ }
@@ -114,7 +115,8 @@ fn after_last_same(pool: &[u8], nodes: &[u32], hashes: &[u16], from: usize, row:
     j
 }
 
-// Notes for each row since when the keys up to it differ, and says for how many rows: for none where they are too many.
+// Notes for each end of a range the first row from which on the keys up to there differ, and returns the last end that has a note. Where
+// there are more nodes than lawful tables have, that is 0, and every range is gone through.
 fn note_keys(pool: &[u8], nodes: &[u32], hashes: &mut [u16], since: &mut [u16], rows: u32) -> usize
     requires { ⌜ Hashed (now pool) (now nodes) 0 (now hashes) ⌝ }
     requires { ⌜ Since (now pool) (now nodes) 0 (now since) ⌝ }

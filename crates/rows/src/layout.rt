@@ -126,8 +126,8 @@ pub(crate) fn is_new(t: &[u32], width: usize, column: usize, first: u32, i: u32)
     true
 }
 
-// Whether the word of row first + i is new, as `is_new` says it. A word below 512 is marked here once it is met, so its mark tells;
-// names have such words, and they are most of what is asked. A larger word is looked for.
+// As `is_new`, where the words of the i rows before are marked; marks the row's own. The words that are asked about number names, and
+// lawful tables have at most 512 of them: a mark for each tells without a search. A larger word is looked for.
 fn is_new_by_marks(
     t: &[u32],
     width: usize,

@@ -13,6 +13,7 @@ use borrow.Author.Needs.{needs}
 use Rattle.rows.proofs.keys.object_rows.Statement.{statement}
 use Rattle.rows.proofs.keys.object_rows.Tie as tie
 
+-- the numbers of the constructors but that of an object
 abbrev others : List ℕ
 others = 0 ∷ 1 ∷ 2 ∷ 3 ∷ 4 ∷ 5 ∷ 6 ∷ 7 ∷ 9 ∷ []
 

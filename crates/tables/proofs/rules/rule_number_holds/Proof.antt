@@ -1,4 +1,4 @@
--- The rule is the one that `rule_at` gives; the 38th is the one that `all_node_keys_differ` answers for every node. Assumes nothing.
+-- The rule is the one that `rule_at` gives; rule 38 is the one that `all_node_keys_differ` answers for every node. Assumes nothing.
 use borrow.Author.Needs.{needs}
 use Rattle.tables.specs.Rules.{ruleAt, obeyed}
 use Rattle.tables.proofs.rules.rule_number_holds.Statement.{statement}
