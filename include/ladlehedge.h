@@ -4,14 +4,17 @@
  *
  *     struct ladlehedge_tables tables = { .pool = {bytes, byte_count}, .names = {words, word_count}, .root = 0 };
  *     if (ladlehedge_check_tables(&tables) == LADLEHEDGE_ANSWERED) { .. }
+ *     struct ladlehedge_depth answer = ladlehedge_check_depth(&tables);
  *
  * docs/TABLES.md says what the bytes and words mean. For a caller to know:
  *
- * - Any bytes, any words and any lengths may be lent: to find out whether they are lawful is what the check is for.
+ * - Any bytes, any words and any lengths may be lent: every entry looks for itself whether they are lawful, and says so.
  * - What the proof rests on is that each pointer leads to as many elements as its length says, aligned as C aligns them, and
- *   that nobody writes to them before the call returns. Tables may share memory. Nothing is written to.
+ *   that nobody writes to them before the call returns. Tables may share memory. Nothing in them is written to.
  * - A table of length 0 may have a null pointer here. The exported functions themselves want a pointer that is not null and is
  *   aligned, also for a length of 0, as Rust's slices do; the inline functions see to that.
+ * - The exported depth check writes to two numbers of the caller's. The inline function has its own and hands them back in a
+ *   struct, so there is nothing to see to.
  * - Nothing is kept: once a call has returned, what was lent may change or go. There is no state, no heap, no lock and
  *   nothing to set up. Several threads may call at once.
  * - A length counts elements: bytes of the pool, words (not rows) of a table.
@@ -26,10 +29,19 @@
 extern "C" {
 #endif
 
-/* What an entry answers. */
+/* What an entry answers. A table check has the first two, a depth check all. */
 enum ladlehedge_code {
     LADLEHEDGE_ANSWERED = 0, /* of a table check: the tables are lawful */
-    LADLEHEDGE_UNLAWFUL = 1  /* a table breaks a rule */
+    LADLEHEDGE_UNLAWFUL = 1, /* a table breaks a rule */
+    LADLEHEDGE_TOO_FAR = 3,  /* of a depth check: 33 open sets are reached */
+    LADLEHEDGE_TOO_DEEP = 8  /* depth check only: too deep, at a place */
+};
+
+/* What a depth check answers: the depth is 0 unless the code is 0, the place is 0 unless the code is 8. */
+struct ladlehedge_depth {
+    uint32_t code;
+    uint32_t depth;
+    uint32_t place;
 };
 
 struct ladlehedge_bytes {
@@ -84,6 +96,11 @@ struct ladlehedge_tables {
 /* Exported by the library. No pointer may be null; the inline functions below take care of that. */
 uint32_t ladlehedge_table_check(LADLEHEDGE_TABLES_PARAMETERS);
 
+/* Returns the code. Each of the last two pointers leads to one number of the caller's, which is written whatever the code is:
+ * not null, aligned, with a value to begin with, apart from the other one and from every table, and nobody else's during the
+ * call. */
+uint32_t ladlehedge_depth_check(LADLEHEDGE_TABLES_PARAMETERS, uint32_t *depth, uint32_t *place);
+
 /* A place to point to for a slice of no words. */
 static const uint32_t ladlehedge_no_words = 0;
 
@@ -121,6 +138,15 @@ static inline const uint32_t *ladlehedge_first_word(struct ladlehedge_words lent
 static inline uint32_t ladlehedge_check_tables(const struct ladlehedge_tables *tables)
 {
     return ladlehedge_table_check(LADLEHEDGE_LEND(tables));
+}
+
+/* The depth check: how deep the operation nests the fields `fields`, `interfaces`, `possibleTypes` and `inputFields`. It looks
+ * at the tables as the table check does, so that need not be asked before. */
+static inline struct ladlehedge_depth ladlehedge_check_depth(const struct ladlehedge_tables *tables)
+{
+    struct ladlehedge_depth answer = { 0, 0, 0 };
+    answer.code = ladlehedge_depth_check(LADLEHEDGE_LEND(tables), &answer.depth, &answer.place);
+    return answer;
 }
 
 #ifdef __cplusplus
