@@ -5,13 +5,17 @@
 //! The others go to one of the limits and stand on either side of it. Of a third of all cases some
 //! words are changed in the tables themselves.
 //!
+//! [`depth_tables`] are small and made for depth checks alone.
+//!
 //! All tables but [`spoiled_tables`] obey document 01's rules; they need not be valid GraphQL.
 
 mod answers;
+mod depths;
 mod document;
 mod limits;
 mod random;
 mod schema;
+mod shuffle;
 mod twist;
 mod values;
 
@@ -33,6 +37,18 @@ pub fn tables(seed: u64) -> Tables {
 pub fn spoiled_tables(seed: u64) -> Tables {
     let mut tables = tables(seed);
     twist::spoil(&mut tables, &mut Random::new(!seed.rotate_left(16)));
+    tables
+}
+
+/// The tables of a seed for a depth check. In some of them a few words are changed, so that sets
+/// may share rows.
+pub fn depth_tables(seed: u64) -> Tables {
+    let mut tables = build::build(&depths::case(Random::new(seed)));
+    let mut random = Random::new(!seed);
+    shuffle::shuffle(&mut tables, &mut random);
+    if random.chance(8) {
+        twist::twist(&mut tables, &mut random);
+    }
     tables
 }
 
