@@ -20,6 +20,10 @@ type Change = fn(&mut Tables);
 #[test]
 fn lawful_tables_break_none() {
     assert_eq!(rules::check(&lawful()), Ok(()));
+    // An empty range may start anywhere, also where no child could stand.
+    let mut tables = lawful();
+    tables.nodes[..3].copy_from_slice(&[7, 0, 0]);
+    assert_eq!(rules::check(&tables), Ok(()));
 }
 
 #[test]
@@ -54,7 +58,7 @@ fn each_change_breaks_one() {
         }),
         ("two owners", |t| t.fragments[2] = 1),
         ("node kind", |t| t.nodes[0] = 9),
-        ("empty array ahead", |t| t.nodes[..3].copy_from_slice(&[7, 0, 0])),
+        ("array within itself", |t| t.nodes[..3].copy_from_slice(&[7, 0, 1])),
         ("literal kind", |t| t.literals[0] = 11),
         ("literal range", |t| t.literals[..2].copy_from_slice(&[3, 1 << 31])),
         ("answer kind", |t| t.answers[0] = 6),
