@@ -3,6 +3,10 @@
 //! The oracle and the reading agree wherever the oracle has an answer and the reading's code is 0
 //! (in a depth check: 0 or 8); and where only one of them has an answer, the reading's code says
 //! why. A run that is answered without errors is answered the same in every order.
+//!
+//! [`sample`]: the oracle's answers to depth checks, recorded.
+
+pub mod sample;
 
 use oracle::judge::{self, Answered, CannotJudge, Depth};
 use reading::{code, Lent};

@@ -18,3 +18,12 @@ fn judges_agree() {
         }
     }
 }
+
+#[test]
+fn judges_agree_on_depth_checks() {
+    for seed in 1_000_000..1_002_000 {
+        if let Err(difference) = compare_depths(&generate::depth_tables(seed)) {
+            panic!("seed {seed}: {difference}");
+        }
+    }
+}

@@ -3,6 +3,7 @@
 
 use oracle::judge::{self, CannotJudge, Depth};
 use std::collections::BTreeMap;
+use tables::layout::limit;
 use tables::{file, rules};
 
 const SEEDS: u64 = 1_500;
@@ -84,4 +85,32 @@ fn seeds_reach_every_rule() {
     for depth in ["0 0", "0 1", "0 2", "8", "3"] {
         assert!(tally.depths.contains_key(depth), "no seed below {SEEDS} has the depth {depth}");
     }
+}
+
+#[test]
+fn depth_seeds_reach_every_answer() {
+    let mut answers: BTreeMap<String, u64> = BTreeMap::new();
+    let mut most_fragments = 0;
+    for seed in 0..SEEDS {
+        let tables = generate::depth_tables(seed);
+        assert_eq!(rules::check(&tables), Ok(()), "seed {seed}");
+        assert_eq!(generate::depth_tables(seed), tables, "seed {seed} gives two cases");
+        let depth = judge::depth(&tables);
+        let read = file::read(&file::write_short(&tables)).expect("a table file");
+        assert_eq!(judge::depth(&read), depth, "seed {seed} by its file");
+        let answer = match depth {
+            Ok(Depth::Fine(depth)) => format!("0 {depth}"),
+            Ok(Depth::TooDeep { .. }) => "8".into(),
+            Err(CannotJudge::OpenSets) => "3".into(),
+            Err(other) => panic!("seed {seed}: {other}"),
+        };
+        *answers.entry(answer).or_default() += 1;
+        most_fragments = most_fragments.max(tables.fragment_count() as usize);
+    }
+    println!("{answers:?}");
+    for (answer, percent) in [("0 0", 15), ("0 1", 10), ("0 2", 15), ("8", 15), ("3", 5)] {
+        let count = answers.get(answer).copied().unwrap_or_default();
+        assert!(count * 100 >= SEEDS * percent, "{answer}: {count} of {SEEDS}");
+    }
+    assert_eq!(most_fragments, limit::FRAGMENTS);
 }

@@ -34,14 +34,7 @@ fn string_columns(table: &str, row: &[u32]) -> &'static [usize] {
 /// pool is written as it is and strings by their two words.
 pub fn write(tables: &Tables) -> String {
     let quoted = strings_fit(tables);
-    let mut text = String::new();
-    if !quoted {
-        text += "[pool]\n";
-        for chunk in tables.pool.chunks(64) {
-            text += &quote(chunk);
-            text.push('\n');
-        }
-    }
+    let mut text = pool_text(tables, quoted);
     for (name, width, words) in tables.word_tables() {
         text += &format!("[{name}]\n");
         for row in words.chunks(width) {
@@ -50,6 +43,42 @@ pub fn write(tables: &Tables) -> String {
         }
     }
     text + &format!("[root]\n{}\n", tables.root)
+}
+
+/// The same in fewer bytes: empty tables and a root of 0 are left out, equal rows that follow one
+/// another are written once with their number.
+pub fn write_short(tables: &Tables) -> String {
+    let quoted = strings_fit(tables);
+    let mut text = pool_text(tables, quoted);
+    for (name, width, words) in tables.word_tables() {
+        if words.is_empty() {
+            continue;
+        }
+        text += &format!("[{name}]\n");
+        let rows = words.chunks(width).map(|row| row_text(tables, name, row, quoted));
+        let rows: Vec<String> = rows.collect();
+        // A row with a string stands alone: repeated, its bytes would be shared.
+        for equal in rows.chunk_by(|one, two| one == two && !one.contains('"')) {
+            match equal {
+                [row] => text += row,
+                _ => text += &format!("{} * {}", equal.len(), equal[0]),
+            }
+            text.push('\n');
+        }
+    }
+    if tables.root != 0 {
+        text += &format!("[root]\n{}\n", tables.root);
+    }
+    text
+}
+
+/// The pool, where strings are not written where they stand.
+fn pool_text(tables: &Tables, quoted: bool) -> String {
+    if quoted {
+        return String::new();
+    }
+    let lines = tables.pool.chunks(64).map(|chunk| quote(chunk) + "\n");
+    lines.fold("[pool]\n".into(), |text, line| text + &line)
 }
 
 /// Whether every string lies in the pool, and all of them, each by itself, in one of legal length.

@@ -1,6 +1,6 @@
 //! Table files.
 
-use tables::{file, notation, rules};
+use tables::{file, notation, rules, Tables};
 
 #[test]
 fn tokens() {
@@ -69,4 +69,23 @@ fn shared_strings_that_would_not_fit_are_written_by_their_words() {
     assert!(built.pool.len() < 2_000);
     let text = file::write(&built);
     assert_eq!(file::read(&text).as_ref(), Ok(&built));
+}
+
+#[test]
+fn written_short() {
+    let tables =
+        notation::tables("type Q { a: Int  b: Int }", "{ a'1 a'1 a'1 b'2 }", "", "{ a: 1 }");
+    let short = file::write_short(&tables);
+    assert_eq!(file::read(&short), file::read(&file::write(&tables)));
+    assert!(short.contains("3 * 0 0 0 1 "), "equal rows stand once: {short}");
+    assert!(!short.contains("[fragments]"), "an empty table is left out: {short}");
+}
+
+/// Equal strings each have their bytes, so a row with a string is not folded.
+#[test]
+fn written_short_with_equal_strings() {
+    let tables = Tables { pool: b"ab".to_vec(), names: vec![0, 2, 0, 2], ..Tables::default() };
+    let short = file::write_short(&tables);
+    assert_eq!(short, "[names]\n\"ab\"\n\"ab\"\n");
+    assert_eq!(file::read(&short), file::read(&file::write(&tables)));
 }
