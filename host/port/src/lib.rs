@@ -128,7 +128,8 @@ pub fn table_check(tables: &Tables) -> u32 {
 
 /// The port's depth check.
 pub fn depth_check(tables: &Tables) -> Depth {
-    let (mut depth, mut place) = (0, 0);
+    // Both are written whatever the code is: one that is not would show.
+    let (mut depth, mut place) = (u32::MAX, u32::MAX);
     // SAFETY: the tables are borrowed, as `call` wants them. The two pointers lead to numbers of
     // this function's own: aligned, with a value, apart from each other and from the tables.
     let code = unsafe { call!(ladlehedge_depth_check, tables, &mut depth, &mut place) };
