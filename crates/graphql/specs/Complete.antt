@@ -25,7 +25,7 @@ use Rattle.graphql.specs.Errors.{errorOf, resolver, nullForNonNull, list
 use Rattle.graphql.specs.Lookup.{rowsIn, bytesOf, refOf, nonNull, typeNamed, typeOf, lists, hasValue, fieldNamed, selectionsOf, answerOf, fieldAnswer}
 use Rattle.graphql.specs.Collect.{Group, collect}
 use Rattle.graphql.specs.Coerce.{Arguments, argumentNamed, nodeValue, coerceArgumentValues}
-use Rattle.graphql.specs.Depths.{withinContainers}
+use Rattle.graphql.specs.Containers.{withinContainers}
 
 -- What a resolver gave: skip, an error, a leaf's value, a list of answers, an object.
 pub data Resolved : Type 0 where

@@ -578,6 +578,10 @@ chosen label kit choices text errors = record {
 abbrev pub answered : String → Kit → String → List Expected → Case
 answered label kit text errors = chosen label kit [] text errors
 
+-- `f` fails with this code, and is null
+abbrev pub fFails : String → Kit → ℕ → (place : ℕ) → Case
+fFails label kit code place = answered label kit "{\"f\":null}" (error code place (name 'f ∷ []) ∷ [])
+
 -- answered with a code other than 0
 abbrev pub refusedAt : String → Kit → (textRoom errorRoom : ℕ) → Choices → ℕ → Case
 refusedAt label kit textRoom errorRoom choices code = record {

@@ -1,7 +1,7 @@
 -- What a run means, in reading order; then the cases A to N and four runs more, and the statement that the order of work doesn't show.
 pub mod Run
 pub mod Json
-pub mod Depths
+pub mod Containers
 pub mod Errors
 pub mod Outcome
 pub mod Lookup

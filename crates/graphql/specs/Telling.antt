@@ -1,8 +1,8 @@
--- Four runs that the cases A to N leave out, each of which tells the definition from a neighbour that all the cases let through. The
+-- Five runs that the cases A to N leave out, each of which tells the definition from a neighbour that all the cases let through. The
 -- other worked runs stand in the crate `worked`.
 use mathlib.Core.List.{List, [], _∷_}
 use Rattle.graphql.specs.Run.{name, index}
-use Rattle.graphql.specs.Kit.{'Query, 'f, 'g, 'a, 'b, 'y, 'v, 'F, queries, sets, selections, fragments, nodes, answers, selection, literal, field, set, if-true, ask, spread, fragment, objectLiteral, variable, under, wholeNumber, errs, leafOf, listAnswer, objectAnswer, :Int, :[Int], :[Int]!, :P, over, one, echo, Case, error, chosen, answered}
+use Rattle.graphql.specs.Kit.{'Query, 'f, 'g, 'a, 'b, 'y, 'v, 'F, queries, sets, selections, fragments, nodes, answers, selection, literal, field, set, if-true, ask, spread, fragment, objectLiteral, variable, under, wholeNumber, errs, leafOf, listAnswer, objectAnswer, :Int, :[Int], :[Int]!, :P, over, one, echo, Case, error, fFails, chosen, answered, refusedAt}
 
 abbrev pub tellingRuns : List Case
 tellingRuns =
@@ -13,10 +13,12 @@ tellingRuns =
     (queries (field 'f :Int ∷ []) ∷ sets (set 0 2 ∷ set 2 1 ∷ []) ∷ selections (spread if-true 'F ∷ spread 0 'F ∷ ask 'f :Int ∷ []) ∷ fragments (fragment 'F 'Query 1 ∷ []) ∷
     nodes (wholeNumber 1 0 ∷ []) ∷ answers (objectAnswer 0 'Query 1 1 ∷ leafOf 'f 0 ∷ []) ∷ [])) "{\"f\":1}" [] ∷
     -- `x: P` given `{b: $v}`, v absent
-    answered "reading 12: 19 inside an object" (echo :P (objectLiteral 2 1 ∷ under 'b (variable 'v) ∷ [])) "{\"f\":null}" (error 19 (literal 2) (name 'f ∷ []) ∷ []) ∷
+    fFails "reading 12: 19 inside an object" (echo :P (objectLiteral 2 1 ∷ under 'b (variable 'v) ∷ [])) 19 (literal 2) ∷
     -- `{f y a}` with Int, errors, where y is not defined: choice 2 of three groups is the third, so an undefined group is counted
     chosen "choices: an undefined group is counted" (over
     (queries (field 'f :Int ∷ field 'a :Int ∷ []) ∷ sets (set 0 3 ∷ []) ∷ selections (ask 'f :Int ∷ ask 'y :Int ∷ ask 'a :Int ∷ []) ∷
     answers (objectAnswer 0 'Query 1 2 ∷ errs 'f ∷ errs 'a ∷ []) ∷ [])) (2 ∷ []) "{\"f\":null,\"a\":null}"
     (error 1 (selection 2) (name 'a ∷ []) ∷ error 1 (selection 0) (name 'f ∷ []) ∷ []) ∷
+    -- `{"f":1}` has 7 bytes
+    refusedAt "code 6: too short by one" (one :Int :Int (wholeNumber 1 0 ∷ []) (leafOf 'f 0 ∷ [])) 6 16384 [] 6 ∷
     []

@@ -4,6 +4,7 @@ use mathlib.Core.List.{List, [], _∷_, _++_}
 use Prim.Native.Nat.{ℕ, zero, suc}
 use Prim.Native.String.{String}
 use Rattle.graphql.specs.Kit.{'schema, 'fields, 'interfaces, 'Query, 'f, 'Nope, 'F, 'G, Row, Kit, sets, selections, fragments, answers, selection, set, if-false, if-true, select, ask, askIn, spread, inline, inlineOn, fragment, objectAnswer, :Any, over, DepthCase}
+use Rattle.limits.specs.Runs.{inlineChain}
 
 -- a document: sets, selections and fragments
 abbrev document : (sets selections fragments : List Row) → Kit
@@ -36,9 +37,11 @@ abbrev openSets : (next n : ℕ) → List Row
 openSets next zero = set next 1 ∷ []
 openSets next (suc n) = set next 1 ∷ openSets (suc next) n
 
-abbrev inlineChain : (next n : ℕ) → List Row
-inlineChain next zero = []
-inlineChain next (suc n) = inline 0 next ∷ inlineChain (suc next) n
+-- Two selections of set 0: an inline fragment that leads to a 33rd open set, and a field that leads to a third list, at selection 35. Sets 1 to 32
+-- are the first one's, 33 and 34 the second one's.
+abbrev tooManyOrTooDeep : (first second : Row) → Kit
+tooManyOrTooDeep first second = document (set 0 2 ∷ (openSets 2 31 ++ (set 34 1 ∷ set 35 1 ∷ [])))
+    (first ∷ second ∷ (inlineChain 2 31 ++ (fields' ∷ interfacesIn 34 ∷ fields' ∷ []))) []
 
 abbrev pub workedDepths : List DepthCase
 workedDepths =
@@ -77,6 +80,14 @@ workedDepths =
     -- a field's and a fragment's set count as well: `{... {... {f {fields}}}}` and `{... {... {...F}}}`
     refused "33 open sets, the last a field's" (document (openSets 0 32) (inlineChain 1 31 ++ (askIn 'f :Any 32 ∷ fields' ∷ [])) []) 3 ∷
     refused "33 open sets, the last a fragment's" (document (openSets 0 32) (inlineChain 1 31 ++ (spread 0 'F ∷ fields' ∷ [])) (fragment 'F 'Query 32 ∷ [])) 3 ∷
-    -- no set at all
+    depthOf "32 open sets, the last a field's" (document (openSets 0 31) (inlineChain 1 30 ++ (askIn 'f :Any 31 ∷ fields' ∷ [])) []) 1 ∷
+    depthOf "32 open sets, the last a fragment's" (document (openSets 0 31) (inlineChain 1 30 ++ (spread 0 'F ∷ fields' ∷ [])) (fragment 'F 'Query 31 ∷ [])) 1 ∷
+    -- an empty set is opened too
+    refused "33 open sets, the last an empty one" (document (openSets 0 31 ++ (set 32 0 ∷ [])) (inlineChain 1 32) []) 3 ∷
+    -- 3 and 8, by which is reached first
+    refused "3 is reached before 8" (tooManyOrTooDeep (inline 0 1) (fieldsIn 33)) 3 ∷
+    tooDeepAt "8 is reached before 3" (tooManyOrTooDeep (fieldsIn 33) (inline 0 1)) (selection 35) ∷
+    -- no set at all; and "depth 3" with a further set whose selection is not there
     refused "a table breaks a rule" (document [] [] []) 1 ∷
+    refused "1 comes before 8" (document (set 0 1 ∷ set 1 1 ∷ set 2 1 ∷ set 9 1 ∷ []) (fieldsIn 1 ∷ interfacesIn 2 ∷ fields' ∷ []) []) 1 ∷
     []

@@ -5,7 +5,7 @@ use Prim.Native.Nat.{ℕ, zero, suc, _+_}
 use Prim.Native.String.{String}
 use Rattle.rows.specs.Ascii.{ascii}
 use Rattle.graphql.specs.Run.{Segment, name, index, Path, Choices}
-use Rattle.graphql.specs.Kit.{'typename, 'schema, 'Query, 'f, 'g, 'a, 'b, 'x, 'y, 'v, 'O, 'F, 'G, Row, Kit, refs, queries, arguments, sets, selections, given, fragments, nodes, literals, variables, answers, selection, literal, listOf, field, fieldWith, argument, argumentBy, set, if-true, select, ask, askIn, askWith, spread, inline, inlineOn, fragment, giving, nullLiteral, intLiteral, listLiteral, objectLiteral, variable, under, nullNode, wholeNumber, stringNode, arrayNode, skips, errs, leafOf, listAnswer, objectAnswer, echoes, :Int, :Int!, :[Int!], :String, :String!, :Any, :[Any], :O, :[O], :P, :Nope, ownRef, over, one, echo, echoDefault, v-is, Expected, Case, error, answered, refusedAt, refuses}
+use Rattle.graphql.specs.Kit.{'typename, 'schema, 'Query, 'f, 'g, 'a, 'b, 'x, 'y, 'v, 'O, 'F, 'G, Row, Kit, refs, queries, arguments, sets, selections, given, fragments, nodes, literals, variables, answers, selection, literal, listOf, field, fieldWith, argument, argumentBy, set, if-true, select, ask, askIn, askWith, spread, inline, inlineOn, fragment, giving, nullLiteral, intLiteral, listLiteral, objectLiteral, variable, under, nullNode, wholeNumber, stringNode, arrayNode, skips, errs, leafOf, listAnswer, objectAnswer, echoes, :Int, :Int!, :[Int!], :String, :String!, :Any, :[Any], :O, :[O], :P, :Nope, ownRef, over, one, echo, echoDefault, v-is, Expected, Case, error, fFails, answered, refusedAt, refuses}
 
 module _ {A : Type 0} where
   abbrev pub copies : ℕ → A → List A
@@ -32,9 +32,6 @@ within label kit textRoom errorRoom text errors = record {
 
 abbrev f-is : String → Kit → List ℕ → Case
 f-is label kit text = within label kit 65536 16384 (ascii "{\"f\":" ++ (text ++ ascii "}")) []
-
-abbrev fFails : String → Kit → ℕ → (place : ℕ) → Case
-fFails label kit code place = answered label kit "{\"f\":null}" (error code place (name 'f ∷ []) ∷ [])
 
 -- ---- codes 1, 2, 6 and 7
 
@@ -84,7 +81,6 @@ bufferRuns =
     refusedAt "1 before 2" (alsoAsking 'schema) 65537 16384 [] 1 ∷
     -- `{"f":1}` has 7 bytes
     within "code 6: exactly long enough" oneInt 7 0 (ascii "{\"f\":1}") [] ∷
-    refusedAt "code 6: too short by one" oneInt 6 16384 [] 6 ∷
     -- the final text counts: `null`, although the fields before the failure were longer
     within "code 6: the final text is null" longThenNull 4 16384 (ascii "null") (error 1 (selection 1) (name 'g ∷ []) ∷ []) ∷
     refusedAt "code 6: null is too long" longThenNull 3 16384 [] 6 ∷

@@ -14,11 +14,9 @@ use lib.Seq.{drop-cons, getD-set-same, getD-set-other}
 use borrow.Author.Tests.{eqb-true, eqb-false, leb-true, le-leb, lt-leb}
 use Rattle.rows.specs.Rows.{all}
 use Rattle.rows.specs.Strings.{same, textOf}
-use Rattle.rows.specs.Json.{nodeKey, otherKey, keyNew, keysDistinct, keysLawful}
-use Rattle.rows.specs.Keys.{objectRows, hashFrom, keyHash, Hashed, Since, AfterLast}
+use Rattle.rows.specs.Json.{nodeKey, otherKey, keyNew, keysDistinct}
+use Rattle.rows.specs.Keys.{hashFrom, keyHash, Hashed, Since, AfterLast}
 use Rattle.rows.specs.declared.layout.Range.{Range}
-use Rattle.rows.specs.declared.json.Node.{Node}
-use Rattle.rows.specs.declared.json.Node.the-variants as node
 use Rattle.rows.proofs.Every.{and-left, and-right, all-none, all-broken, all-each}
 
 -- the same bytes have the same hash
@@ -29,7 +27,7 @@ hash-same [] (y ∷ b) hash e = absurd (false≢true e)
 hash-same (x ∷ a) [] hash e = absurd (false≢true e)
 hash-same (x ∷ a) (y ∷ b) hash e =
     let s : x ≡ y = eqb-true x y (and-left (eqb x y) (same a b) e) in
-    rw s (hash-same a b ((hash * 31 + y) % 65536) (and-right (eqb x y) (same a b) e))
+    rw s (hash-same a b ((hash * 40503 + y) % 65536) (and-right (eqb x y) (same a b) e))
 
 hash-other : (a b : List ℕ) → (hashFrom 0 a ≡ hashFrom 0 b → ⊥) → true ≡ not (same a b)
 hash-other a b n = go (same a b) refl
@@ -39,7 +37,7 @@ hash-other a b n = go (same a b) refl
     go false e = refl
 
 -- a hash, byte by byte
-pub hash-turn : (bytes : List ℕ) (hash i : ℕ) → i < length bytes → hashFrom hash (drop i bytes) ≡ hashFrom ((hash * 31 + getD bytes i 0) % 65536) (drop (i + 1) bytes)
+pub hash-turn : (bytes : List ℕ) (hash i : ℕ) → i < length bytes → hashFrom hash (drop i bytes) ≡ hashFrom ((hash * 40503 + getD bytes i 0) % 65536) (drop (i + 1) bytes)
 unfolding hashFrom
 hash-turn bytes hash i h = rw (add-one, drop-cons bytes i 0)
 
@@ -48,20 +46,6 @@ unfolding hashFrom
 hash-end bytes hash i h = rw (drop-of-length-le bytes {i = i} h)
 
 module _ (pool nodes : List ℕ) where
-  -- the rule of a node is one on its children
-  pub object-keys : (n : Node) → keysDistinct pool nodes (objectRows n) ≡ keysLawful pool nodes n
-  unfolding keysDistinct all
-  object-keys node.Null = refl
-  object-keys node.False = refl
-  object-keys node.True = refl
-  object-keys (node.Natural low high) = refl
-  object-keys (node.Negative low high) = refl
-  object-keys (node.Float text) = refl
-  object-keys (node.String text) = refl
-  object-keys (node.Array rows) = refl
-  object-keys (node.Object rows) = refl
-  object-keys node.Unknown = refl
-
   -- no key is hashed
   pub hashed-none : Hashed pool nodes 0 (replicate 4096 0)
   hashed-none = record { sized = length-replicate {A = ℕ} 4096 0; hashed = λ row h. absurd (omega arith) }

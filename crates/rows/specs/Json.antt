@@ -73,20 +73,21 @@ keyNew pool nodes first i = all (λ j. otherKey pool nodes (first + i) (first + 
 unfoldable pub keysDistinct : List ℕ → List ℕ → Range → Bool
 keysDistinct pool nodes rows = all (keyNew pool nodes (rows .first)) (rows .count)
 
-abbrev pub keysLawful : List ℕ → List ℕ → Node → Bool
-keysLawful pool nodes node.Null = true
-keysLawful pool nodes node.False = true
-keysLawful pool nodes node.True = true
-keysLawful pool nodes (node.Natural low high) = true
-keysLawful pool nodes (node.Negative low high) = true
-keysLawful pool nodes (node.Float text) = true
-keysLawful pool nodes (node.String text) = true
-keysLawful pool nodes (node.Array rows) = true
-keysLawful pool nodes (node.Object rows) = keysDistinct pool nodes rows
-keysLawful pool nodes node.Unknown = true
+-- the children of an object; no rows of any other node
+abbrev pub objectRows : Node → Range
+objectRows node.Null = record { first = 0; count = 0 }
+objectRows node.False = record { first = 0; count = 0 }
+objectRows node.True = record { first = 0; count = 0 }
+objectRows (node.Natural low high) = record { first = 0; count = 0 }
+objectRows (node.Negative low high) = record { first = 0; count = 0 }
+objectRows (node.Float text) = record { first = 0; count = 0 }
+objectRows (node.String text) = record { first = 0; count = 0 }
+objectRows (node.Array rows) = record { first = 0; count = 0 }
+objectRows (node.Object rows) = rows
+objectRows node.Unknown = record { first = 0; count = 0 }
 
 abbrev pub nodeKeysDiffer : List ℕ → List ℕ → ℕ → Bool
-nodeKeysDiffer pool nodes row = keysLawful pool nodes (nodeAt nodes row)
+nodeKeysDiffer pool nodes row = keysDistinct pool nodes (objectRows (nodeAt nodes row))
 
 -- Literals: kind, two words by kind, place, and the key of a child of an object.
 abbrev pub literalOf : ℕ → ℕ → ℕ → Literal

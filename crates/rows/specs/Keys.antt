@@ -8,26 +8,11 @@ use lib.Dec.{leb}
 use Rattle.rows.specs.Strings.{textOf}
 use Rattle.rows.specs.Json.{nodeKey, otherKey, keysDistinct}
 use Rattle.rows.specs.declared.layout.Range.{Range}
-use Rattle.rows.specs.declared.json.Node.{Node}
-use Rattle.rows.specs.declared.json.Node.the-variants as node
-
--- the children of an object; no rows of any other node
-abbrev pub objectRows : Node → Range
-objectRows node.Null = record { first = 0; count = 0 }
-objectRows node.False = record { first = 0; count = 0 }
-objectRows node.True = record { first = 0; count = 0 }
-objectRows (node.Natural low high) = record { first = 0; count = 0 }
-objectRows (node.Negative low high) = record { first = 0; count = 0 }
-objectRows (node.Float text) = record { first = 0; count = 0 }
-objectRows (node.String text) = record { first = 0; count = 0 }
-objectRows (node.Array rows) = record { first = 0; count = 0 }
-objectRows (node.Object rows) = rows
-objectRows node.Unknown = record { first = 0; count = 0 }
 
 -- a number below 65,536 that equal bytes have in common
 unfoldable pub hashFrom : ℕ → List ℕ → ℕ
 hashFrom hash [] = hash
-hashFrom hash (b ∷ bytes) = hashFrom ((hash * 31 + b) % 65536) bytes
+hashFrom hash (b ∷ bytes) = hashFrom ((hash * 40503 + b) % 65536) bytes
 
 abbrev pub keyHash : List ℕ → List ℕ → ℕ → ℕ
 keyHash pool nodes row = hashFrom 0 (textOf pool (nodeKey nodes row))

@@ -4,11 +4,7 @@ use mathlib.Core.List.{List, [], _∷_, _++_}
 use Prim.Native.Nat.{ℕ, zero, suc}
 use Prim.Native.String.{String}
 use Rattle.graphql.specs.Run.{name, index}
-use Rattle.graphql.specs.Kit.{'Query, 'f, 'g, 'a, 'b, 'x, 'y, 'v, 'O, 'R, 'I, 'E, 'Nope, one-and-a-half, Row, Kit, refs, queries, arguments, sets, selections, nodes, answers, selection, definition, literal, listOf, field, fieldWith, argument, set, ask, askIn, nullLiteral, intLiteral, listLiteral, objectLiteral, variable, under, nullNode, falseNode, trueNode, wholeNumber, negativeNumber, floatNode, stringNode, escapedNode, arrayNode, objectNode, underText, errs, leafOf, listAnswer, objectAnswer, echoes, :Int, :Int!, :[Int!], :Float, :String, :Boolean, :ID, :Any, :E, :O, :[O], :I, :U, :P, :Nope, ownRef, over, one, echo, v-is, Expected, Case, error, answered}
-
--- f fails with this code, and is null
-abbrev fFails : String → Kit → ℕ → (place : ℕ) → Case
-fFails label kit code place = answered label kit "{\"f\":null}" (error code place (name 'f ∷ []) ∷ [])
+use Rattle.graphql.specs.Kit.{'Query, 'f, 'g, 'a, 'b, 'x, 'y, 'v, 'O, 'R, 'I, 'E, 'Nope, one-and-a-half, Row, Kit, refs, queries, arguments, sets, selections, nodes, answers, selection, definition, literal, listOf, field, fieldWith, argument, set, ask, askIn, nullLiteral, intLiteral, listLiteral, objectLiteral, variable, under, nullNode, falseNode, trueNode, wholeNumber, negativeNumber, floatNode, stringNode, escapedNode, arrayNode, objectNode, underText, errs, leafOf, listAnswer, objectAnswer, echoes, :Int, :Int!, :[Int!], :Float, :String, :Boolean, :ID, :Any, :E, :O, :[O], :I, :U, :P, :Nope, ownRef, over, one, echo, v-is, Expected, Case, error, fFails, answered}
 
 -- an error at an item of f
 abbrev itemFails : ℕ → (item : ℕ) → Expected

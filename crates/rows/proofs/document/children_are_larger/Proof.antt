@@ -6,7 +6,6 @@ use borrow.Author.Needs.{needs}
 use Rattle.rows.specs.Rows.{all}
 use Rattle.rows.specs.Document.{childLarger, childrenLarger}
 use Rattle.rows.proofs.Every.{every}
-use borrow.Author.Needs.{needs}
 use Rattle.rows.proofs.document.children_are_larger.Statement.{statement}
 use Rattle.rows.proofs.document.children_are_larger.Tie as tie
 

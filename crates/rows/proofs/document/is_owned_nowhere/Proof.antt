@@ -6,7 +6,6 @@ use borrow.Author.Needs.{needs}
 use Rattle.rows.specs.Rows.{all}
 use Rattle.rows.specs.Document.{ownsOther, ownedSet, ownedNowhere}
 use Rattle.rows.proofs.Every.{every}
-use borrow.Author.Needs.{needs}
 use Rattle.rows.proofs.document.is_owned_nowhere.Statement.{statement}
 use Rattle.rows.proofs.document.is_owned_nowhere.Tie as tie
 

@@ -4,9 +4,9 @@ use mathlib.Core.Bool.{true}
 use Prim.Native.Nat.{_≤_, _-_}
 use borrow.Author.Needs.{needs}
 use Rattle.rows.specs.Rows.{all}
-use Rattle.rows.specs.Json.{nodeAt, nodeKeysDiffer}
+use Rattle.rows.specs.Json.{nodeKeysDiffer}
 use Rattle.rows.proofs.Every.{all-none, all-more, all-broken, all-ended}
-use Rattle.rows.proofs.Since.{hashed-none, since-none, object-keys}
+use Rattle.rows.proofs.Since.{hashed-none, since-none}
 use Rattle.rows.proofs.keys.all_node_keys_differ.Statement.{statement}
 use Rattle.rows.proofs.keys.all_node_keys_differ.Tie as tie
 
@@ -47,9 +47,7 @@ are-distinct-by-note-requires c κs = c .before .before .before .before .before 
 -- the answer at a node
 answer : (c : tie.After-are-distinct-by-note Inv-loop μ-loop)
     → c .are-distinct-by-note .result ≡ nodeKeysDiffer (c .before .before .before .before .before .before .before .before .before .before .before .before .before .before .args .pool .now) (c .before .before .before .before .before .before .before .before .before .before .before .before .before .before .args .nodes .now) (c .before .before .before .before .before .loop .row)
-answer c =
-    rw (c .are-distinct-by-note .ensures, c .before .object-rows .ensures, c .before .before .node-at .ensures)
-    (object-keys _ _ (nodeAt (c .before .before .before .before .before .before .before .before .before .before .before .before .before .before .args .nodes .now) (c .before .before .before .before .before .loop .row)))
+answer c = rw (c .are-distinct-by-note .ensures, c .before .object-rows .ensures, c .before .before .node-at .ensures)
 
 returns : tie.Need-returns Inv-loop μ-loop
 returns c = rw (← (c .before .before .before .before .before .before .before .before .before .before .before .before .row-count .ensures)) (all-broken _ (c .before .before .before .before .before .before .loop .row) _ (c .before .are-distinct-by-note .result) (c .before .before .before .before .before .loop-test .taken) (answer (c .before)) (c .if1 .taken))

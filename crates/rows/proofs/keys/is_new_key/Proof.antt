@@ -6,7 +6,6 @@ use borrow.Author.Needs.{needs}
 use Rattle.rows.specs.Rows.{all}
 use Rattle.rows.specs.Json.{otherKey, keyNew}
 use Rattle.rows.proofs.Every.{every}
-use borrow.Author.Needs.{needs}
 use Rattle.rows.proofs.keys.is_new_key.Statement.{statement}
 use Rattle.rows.proofs.keys.is_new_key.Tie as tie
 

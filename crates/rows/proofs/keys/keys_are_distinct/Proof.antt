@@ -6,7 +6,6 @@ use borrow.Author.Needs.{needs}
 use Rattle.rows.specs.Rows.{all}
 use Rattle.rows.specs.Json.{keyNew, keysDistinct}
 use Rattle.rows.proofs.Every.{every}
-use borrow.Author.Needs.{needs}
 use Rattle.rows.proofs.keys.keys_are_distinct.Statement.{statement}
 use Rattle.rows.proofs.keys.keys_are_distinct.Tie as tie
 

@@ -1,6 +1,4 @@
 -- Each part is what its callee ensures. Assumes nothing.
-use Rattle.rows.specs.Json.{nodeAt}
-use Rattle.rows.proofs.Since.{object-keys}
 use borrow.Author.Needs.{needs}
 use Rattle.rows.proofs.keys.node_keys_differ.Statement.{statement}
 use Rattle.rows.proofs.keys.node_keys_differ.Tie as tie
@@ -15,7 +13,7 @@ keys-are-distinct-requires : tie.Need-keys-are-distinct-requires
 keys-are-distinct-requires c κs = search needs
 
 returns : tie.Need-returns
-returns c = rw (c .keys-are-distinct .ensures, c .before .object-rows .ensures, c .before .before .node-at .ensures) (object-keys _ _ (nodeAt (c .before .before .before .before .before .args .nodes .now) (c .before .before .before .before .before .args .row)))
+returns c = rw (c .keys-are-distinct .ensures, c .before .object-rows .ensures, c .before .before .node-at .ensures)
 
 pub node-keys-differ-spec : {M : Type 1} → statement M
 node-keys-differ-spec =

@@ -5,7 +5,6 @@ use Prim.Native.Nat.{_≤_, _-_, _+_}
 use borrow.Author.Needs.{needs}
 use Rattle.rows.specs.Rows.{all, other, isNew}
 use Rattle.rows.proofs.Every.{every}
-use borrow.Author.Needs.{needs}
 use Rattle.rows.proofs.layout.is_new.Statement.{statement}
 use Rattle.rows.proofs.layout.is_new.Tie as tie
 

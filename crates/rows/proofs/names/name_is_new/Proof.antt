@@ -6,7 +6,6 @@ use borrow.Author.Needs.{needs}
 use Rattle.rows.specs.Rows.{all}
 use Rattle.rows.specs.Names.{otherName, nameNew}
 use Rattle.rows.proofs.Every.{every}
-use borrow.Author.Needs.{needs}
 use Rattle.rows.proofs.names.name_is_new.Statement.{statement}
 use Rattle.rows.proofs.names.name_is_new.Tie as tie
 

@@ -6,7 +6,6 @@ use borrow.Author.Needs.{needs}
 use Rattle.rows.specs.Rows.{all}
 use Rattle.tables.specs.Defaults.{argumentUnmarked}
 use Rattle.rows.proofs.Every.{all-none, all-more, all-broken, all-ended}
-use borrow.Author.Needs.{needs}
 use Rattle.tables.proofs.defaults.arguments_are_unmarked.Statement.{statement}
 use Rattle.tables.proofs.defaults.arguments_are_unmarked.Tie as tie
 

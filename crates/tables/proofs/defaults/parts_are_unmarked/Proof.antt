@@ -6,7 +6,6 @@ use borrow.Author.Needs.{needs}
 use Rattle.rows.specs.Rows.{all}
 use Rattle.tables.specs.Defaults.{unmarked}
 use Rattle.rows.proofs.Every.{every}
-use borrow.Author.Needs.{needs}
 use Rattle.tables.proofs.defaults.parts_are_unmarked.Statement.{statement}
 use Rattle.tables.proofs.defaults.parts_are_unmarked.Tie as tie
 

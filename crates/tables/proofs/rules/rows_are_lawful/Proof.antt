@@ -7,7 +7,6 @@ use Rattle.rows.specs.Rows.{all}
 use Rattle.tables.specs.Tables.{tables}
 use Rattle.tables.specs.Rules.{ruleAt, obeyed, rowsLawful}
 use Rattle.rows.proofs.Every.{all-none, all-more, all-broken, all-ended}
-use borrow.Author.Needs.{needs}
 use Rattle.tables.proofs.rules.rows_are_lawful.Statement.{statement}
 use Rattle.tables.proofs.rules.rows_are_lawful.Tie as tie
 

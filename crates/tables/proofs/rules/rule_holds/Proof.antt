@@ -7,7 +7,6 @@ use Rattle.rows.specs.Rows.{all}
 use Rattle.tables.specs.Tables.{tables}
 use Rattle.tables.specs.Rules.{holdsAt, obeyed}
 use Rattle.rows.proofs.Every.{all-none, all-more, all-broken, all-ended}
-use borrow.Author.Needs.{needs}
 use Rattle.tables.proofs.rules.rule_holds.Statement.{statement}
 use Rattle.tables.proofs.rules.rule_holds.Tie as tie
 
