@@ -1,7 +1,7 @@
 -- The cases by computation; then demand 3, from what two runs of one computation agree on to the statements.
 pub mod Computing
 pub mod Cases
-pub mod Telling
+pub mod Apart
 pub mod There
 pub mod Stable
 pub mod Order

@@ -12,5 +12,5 @@ pub mod Report
 pub mod Depth
 pub mod Kit
 pub mod Cases
-pub mod Telling
+pub mod Apart
 pub mod Demand3

@@ -4,9 +4,9 @@ use mathlib.Core.Path.{_≡_, refl}
 use mathlib.Core.Bool.{true}
 use mathlib.Core.List.{_++_}
 use Rattle.graphql.specs.Kit.{allRight}
-use Rattle.graphql.specs.Telling.{tellingRuns}
+use Rattle.graphql.specs.Apart.{apartRuns}
 use Rattle.graphql.proofs.Computing.{computing}
-use Rattle.graphql.proofs.Telling.{telling-right}
+use Rattle.graphql.proofs.Apart.{apart-right}
 use Rattle.limits.specs.Runs.{limitRuns}
 use Rattle.limits.proofs.Runs.{right-++, limits-right}
 use Rattle.worked.specs.Errors.{errorRuns}
@@ -43,6 +43,6 @@ readings-right = right-++ completingRuns (argumentRuns ++ collectingRuns) comple
 
 pub worked-runs-right : allRight workedRuns ≡ true
 worked-runs-right =
-    right-++ tellingRuns (errorRuns ++ (readingRuns ++ (limitRuns ++ orderRuns))) telling-right
+    right-++ apartRuns (errorRuns ++ (readingRuns ++ (limitRuns ++ orderRuns))) apart-right
     (right-++ errorRuns (readingRuns ++ (limitRuns ++ orderRuns)) errors-right
     (right-++ readingRuns (limitRuns ++ orderRuns) readings-right (right-++ limitRuns orderRuns limits-right orders-right)))

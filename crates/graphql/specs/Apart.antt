@@ -1,11 +1,11 @@
--- Five runs that the cases A to N leave out, each of which tells the definition from a neighbour that all the cases let through. The
--- other worked runs stand in the crate `worked`.
+-- Five runs that the cases A to N leave out and that tell the definition apart from its neighbours: each refutes one that all the cases
+-- let through. The other worked runs stand in the crates `limits` and `worked`.
 use mathlib.Core.List.{List, [], _∷_}
 use Rattle.graphql.specs.Run.{name, index}
 use Rattle.graphql.specs.Kit.{'Query, 'f, 'g, 'a, 'b, 'y, 'v, 'F, queries, sets, selections, fragments, nodes, answers, selection, literal, field, set, if-true, ask, spread, fragment, objectLiteral, variable, under, wholeNumber, errs, leafOf, listAnswer, objectAnswer, :Int, :[Int], :[Int]!, :P, over, one, echo, Case, error, fFails, chosen, answered, refusedAt}
 
-abbrev pub tellingRuns : List Case
-tellingRuns =
+abbrev pub apartRuns : List Case
+apartRuns =
     -- attached `[Int]`, own `[Int]!`, an error item: it goes up past the list, and the own type lets it go further
     answered "reading 1: an error item, by the own type" (one :[Int]! :[Int] [] (listAnswer 'f 2 1 ∷ errs 0 ∷ [])) "null" (error 1 (selection 0) (name 'f ∷ index 0 ∷ []) ∷ []) ∷
     -- `{...F @skip(if: true) ...F}` with `fragment F on Query {f}`
