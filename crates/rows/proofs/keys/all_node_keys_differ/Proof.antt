@@ -19,14 +19,14 @@ abbrev μ-loop : tie.MeasureT-loop
 row-count-requires : tie.Need-row-count-requires Inv-loop μ-loop
 row-count-requires c κs = search needs
 
-slice-aggregate-note-keys : tie.Need-slice-aggregate-note-keys Inv-loop μ-loop
-slice-aggregate-note-keys c = search needs
+slice-aggregate-note-children : tie.Need-slice-aggregate-note-children Inv-loop μ-loop
+slice-aggregate-note-children c = search needs
 
-slice-aggregate-note-keys-2 : tie.Need-slice-aggregate-note-keys-2 Inv-loop μ-loop
-slice-aggregate-note-keys-2 c = search needs
+slice-aggregate-note-children-2 : tie.Need-slice-aggregate-note-children-2 Inv-loop μ-loop
+slice-aggregate-note-children-2 c = search needs
 
-note-keys-requires : tie.Need-note-keys-requires Inv-loop μ-loop
-note-keys-requires c κs = (hashed-none _ _, since-none _ _)
+note-children-requires : tie.Need-note-children-requires Inv-loop μ-loop
+note-children-requires c κs = (hashed-none _ _, since-none _ _)
 
 loop-holds : tie.Need-loop-holds Inv-loop μ-loop
 loop-holds c = (search needs, all-none _)
@@ -42,7 +42,7 @@ object-rows-requires : tie.Need-object-rows-requires Inv-loop μ-loop
 object-rows-requires c κs = search needs
 
 are-distinct-by-note-requires : tie.Need-are-distinct-by-note-requires Inv-loop μ-loop
-are-distinct-by-note-requires c κs = c .before .before .before .before .before .before .before .note-keys .ensures
+are-distinct-by-note-requires c κs = c .before .before .before .before .before .before .before .note-children .ensures
 
 -- the answer at a node
 answer : (c : tie.After-are-distinct-by-note Inv-loop μ-loop)
@@ -71,9 +71,9 @@ all-node-keys-differ-spec =
     Inv-loop
     μ-loop
     row-count-requires
-    slice-aggregate-note-keys
-    slice-aggregate-note-keys-2
-    note-keys-requires
+    slice-aggregate-note-children
+    slice-aggregate-note-children-2
+    note-children-requires
     loop-holds
     slice-aggregate-are-distinct-by-note
     node-at-requires
