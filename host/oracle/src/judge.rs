@@ -6,6 +6,7 @@ use crate::introspection;
 use crate::resolvers;
 use crate::response::{GraphQLError, ResponseDataPathSegment};
 use crate::translate::translate;
+use reading::code;
 use std::collections::HashMap;
 use std::fmt;
 use tables::layout::{limit, width, SCHEMA, TYPE};
@@ -32,6 +33,16 @@ pub enum Depth {
     TooDeep { place: u32 },
 }
 
+/// The answer as the reading gives it.
+impl From<Depth> for reading::Depth {
+    fn from(answer: Depth) -> Self {
+        match answer {
+            Depth::Fine(depth) => reading::Depth { code: code::ANSWERED, depth, place: 0 },
+            Depth::TooDeep { place } => reading::Depth { code: code::TOO_DEEP, depth: 0, place },
+        }
+    }
+}
+
 /// Why the Rust can say nothing.
 #[derive(Debug, Clone, PartialEq, Eq)]
 pub enum CannotJudge {
@@ -41,7 +52,8 @@ pub enum CannotJudge {
     Introspection,
     /// A field or an item was asked for at a path of more than 32 segments (code 3).
     LongPath,
-    /// A depth check has 33 sets open (code 3); the Rust may go on without end.
+    /// A depth check has 33 sets open (code 3). The Rust may go on without end and is not asked: that
+    /// it is so is known from the reading alone.
     OpenSets,
     /// More work than the judge does.
     Work,
@@ -58,7 +70,9 @@ impl fmt::Display for CannotJudge {
             CannotJudge::Rule(what) => write!(f, "the tables break a rule: {what}"),
             CannotJudge::Introspection => write!(f, "a field is named __schema or __type"),
             CannotJudge::LongPath => write!(f, "a path of more than {} segments", limit::OPEN),
-            CannotJudge::OpenSets => write!(f, "more than {} open sets", limit::OPEN),
+            CannotJudge::OpenSets => {
+                write!(f, "more than {} open sets, by the reading alone", limit::OPEN)
+            }
             CannotJudge::Work => write!(f, "more work than the judge does"),
             CannotJudge::Size => write!(f, "rows that unfold to more than {VALUE_SIZE}"),
             CannotJudge::NoCode(message) => write!(f, "a message without a code: {message}"),
@@ -80,8 +94,8 @@ pub fn depth(tables: &Tables) -> Result<Depth, CannotJudge> {
     rules::check(tables).map_err(CannotJudge::Rule)?;
     // The Rust marks a fragment only when it is through with it, so it never ends where a fragment
     // leads back to itself without a field that counts. Document 01 has it stop at the 33rd open
-    // set: where that is reached, the Rust is not asked.
-    if reading::depth(tables).code == reading::code::LIMIT {
+    // set: where the reading says that it is reached, the Rust is not asked.
+    if reading::depth(tables).code == code::LIMIT {
         return Err(CannotJudge::OpenSets);
     }
     with_room(|| {

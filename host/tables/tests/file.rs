@@ -26,24 +26,105 @@ fn tokens() {
     assert!(tables.types.is_empty());
 }
 
+/// A row of each table that has words of its own, and every word.
+#[test]
+fn words() {
+    let rows: [(&str, &str, &[u32]); 8] = [
+        ("type_refs", "named list nullable non-null", &[0, 1, 0, 1]),
+        ("types", "scalar enum object interface union input", &[0, 1, 2, 3, 4, 5]),
+        ("selections", "field spread inline none false true", &[0, 1, 2, 0, 1, 2]),
+        ("nodes", "null false true integer negative float string", &[0, 1, 2, 3, 4, 5, 6]),
+        ("nodes", "array list object", &[7, 7, 8]),
+        ("literals", "null string array list object enum variable", &[0, 6, 7, 7, 8, 9, 10]),
+        ("answers", "skip error leaf list object echo", &[0, 1, 2, 3, 4, 5]),
+        ("fields", "none - @0 @4294967294", &[0, 0, 1, u32::MAX]),
+    ];
+    for (table, row, words) in rows {
+        let tables = file::read(format!("[{table}]\n{row}")).expect(row);
+        let (.., read) =
+            tables.word_tables().into_iter().find(|(name, ..)| *name == table).expect(row);
+        assert_eq!(read, words, "{row}");
+    }
+}
+
+#[test]
+fn names_by_their_spelling() {
+    let text = "[names]\n\"a\" \"b\"\n\"a\" 'a 'b\n[sets]\r\n'b $b @'b\t'a#\n[root]\n'b";
+    let tables = file::read(text).expect("a table file");
+    // The first of two that are equal, and also one that stands earlier in the row.
+    assert_eq!(tables.names, [0, 1, 1, 1, 2, 1, 0, 1]);
+    assert_eq!(tables.sets, [1, 4, 2, 0]);
+    assert_eq!(tables.root, 1);
+}
+
+/// The bytes of a row's strings stand once, however often its words do.
+#[test]
+fn repeated_rows() {
+    let tables = file::read("[names]\n2 * \"ab\"\n0 * \"c\"\n3 *\n[sets]\n2 * none 1\n");
+    let tables = tables.expect("a table file");
+    assert_eq!(tables.pool, b"abc");
+    assert_eq!(tables.names, [0, 2, 0, 2]);
+    assert_eq!(tables.sets, [0, 1, 0, 1]);
+}
+
+/// A string is bytes: what is no UTF-8 goes into the pool as it stands.
+#[test]
+fn a_text_is_bytes() {
+    let tables = file::read(b"[pool]\n\"\xFF\\xfE\r\"").expect("a table file");
+    assert_eq!(tables.pool, b"\xFF\xFE\r");
+}
+
 #[test]
 fn faults() {
+    let no_number = "a number has digits only, and an L behind a 64-bit one";
+    let too_large = "the number is too large";
+    let no_word = "no such word in this table";
+    let no_name = "no such name in [names] so far";
+    let escape = r#"an escape is one of \" \\ \n \t \xHH"#;
     let faults = [
-        ("1 2", 1),
-        ("[names]\n\n[nomes]", 3),
-        ("[names", 1),
-        ("[names]\n\"Int", 2),
-        ("[names]\n\"\\q\"", 2),
-        ("[names]\n\"\\xZZ\"", 2),
-        ("[types]\n4294967296", 2),
-        ("[types]\n1 two", 2),
-        ("[types]\n18446744073709551616L", 2),
-        ("[pool]\n1", 2),
-        ("[root]\n1 2", 2),
+        ("1 2", 1, "a row before the first table, as [names]"),
+        ("[names]\n\n[nomes]", 3, "no such table"),
+        ("[names", 1, "no such table"),
+        ("[names] 1", 1, "nothing but a comment may follow a table's name"),
+        ("[names]\n\"Int", 2, "the string is not closed on its line"),
+        ("[names]\n\"\\q\"", 2, escape),
+        ("[names]\n\"\\xZZ\"", 2, escape),
+        ("[names]\n\"\\x1\n\"", 2, escape),
+        ("[names]\n\"a\"0", 2, "a blank has to follow a string"),
+        ("[types]\n4294967296", 2, too_large),
+        ("[types]\n18446744073709551616L", 2, too_large),
+        ("[types]\n4294967296 * 0", 2, too_large),
+        ("[types]\n@4294967295", 2, too_large),
+        ("[types]\n1x", 2, no_number),
+        ("[types]\n1LL", 2, no_number),
+        ("[types]\n2* 0", 2, no_number),
+        ("[types]\n2L * 0", 2, no_number),
+        ("[types]\n@", 2, no_number),
+        ("[types]\n@+1", 2, no_number),
+        ("[types]\n@1L", 2, no_number),
+        ("[types]\n1 two", 2, no_word),
+        ("[types]\nlist", 2, no_word),
+        ("[types]\n-1", 2, no_word),
+        ("[types]\n2 *0", 2, no_word),
+        ("[nodes]\nenum", 2, no_word),
+        ("[answers]\narray", 2, no_word),
+        ("[types]\n'Int", 2, no_name),
+        ("[names]\n'Int \"Int\"", 2, no_name),
+        ("[names]\n\"In\"\n[types]\n$Int", 4, no_name),
+        ("[names]\n5 2\n[types]\n@'ab", 4, no_name),
+        ("[pool]\n1", 2, "[pool] holds strings only"),
+        ("[pool]\n2 * \"a\"", 2, "[pool] holds strings only"),
+        ("[root]\n1 2", 2, "[root] has one number"),
+        ("[root]\n1\n[types]\n[root]\n1", 5, "[root] has one number"),
+        ("[sets]\n20640 * 1\n1", 3, "more rows than ladle holds"),
+        ("[sets]\n4294967295 * 1", 2, "more rows than ladle holds"),
     ];
-    for (text, line) in faults {
-        assert_eq!(file::read(text).expect_err(text).line, line, "{text}");
+    for (text, line, message) in faults {
+        assert_eq!(file::read(text), Err(file::Fault { line, message }), "{text}");
     }
+    let long = format!("[pool]\n\"{}\"\n\"a\"", "a".repeat(69_632));
+    let message = "more bytes of strings than ladle holds";
+    assert_eq!(file::read(long), Err(file::Fault { line: 3, message }));
 }
 
 #[test]

@@ -24,7 +24,7 @@ fn main() -> ExitCode {
         match read(path) {
             Ok(tables) => answer(&tables, with_places),
             Err(fault) => {
-                eprintln!("{path}: {fault}");
+                eprintln!("{fault}");
                 code = ExitCode::FAILURE;
             }
         }
@@ -33,8 +33,8 @@ fn main() -> ExitCode {
 }
 
 fn read(path: &str) -> Result<Tables, String> {
-    let text = std::fs::read_to_string(path).map_err(|error| error.to_string())?;
-    file::read(&text).map_err(|fault| format!("line {}: {}", fault.line, fault.message))
+    let text = std::fs::read(path).map_err(|error| format!("{path}: {error}"))?;
+    file::read(text).map_err(|fault| format!("{path}:{}: {}", fault.line, fault.message))
 }
 
 fn answer(tables: &Tables, with_places: bool) {
