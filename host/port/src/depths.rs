@@ -1,27 +1,42 @@
 //! The port's depth check against the oracle, where that has an answer, and against the reading,
-//! which always has one.
+//! which always has one. Each answer is counted under who judged it.
 
 use crate::{depth_check, Depth};
 use oracle::judge::{self, CannotJudge};
-use reading::code;
 use std::collections::BTreeMap;
+use std::fmt;
 use std::ops::Range;
 use tables::Tables;
+
+/// Who judged an answer.
+#[derive(Debug, Clone, Copy, PartialEq, Eq, PartialOrd, Ord)]
+pub enum Judge {
+    /// The Rust, and the reading beside it.
+    Oracle,
+    /// The Rust was not asked: because the reading said 3, or because the document is too large.
+    ReadingAlone,
+    /// The Rust was not asked, since the tables break a rule: by `tables::rules`, which the reading
+    /// asks as well.
+    RulesAlone,
+}
+
+impl fmt::Display for Judge {
+    fn fmt(&self, f: &mut fmt::Formatter<'_>) -> fmt::Result {
+        f.write_str(match self {
+            Judge::Oracle => "by the oracle and the reading",
+            Judge::ReadingAlone => "by the reading alone",
+            Judge::RulesAlone => "by the rules alone",
+        })
+    }
+}
 
 /// What came of some seeds.
 #[derive(Debug, Default)]
 pub struct Tally {
-    /// For each code and depth how often the port gave them.
-    pub answers: BTreeMap<(u32, u32), Count>,
+    /// How often the port gave which code and depth, and who judged it.
+    pub answers: BTreeMap<(u32, u32, Judge), u64>,
     /// One line for each time that it differed from a judge.
     pub differences: Vec<String>,
-}
-
-#[derive(Debug, Default, Clone, Copy)]
-pub struct Count {
-    pub asked: u64,
-    /// How often the oracle had an answer too.
-    pub judged: u64,
 }
 
 /// Asks about the tables that are made for depth checks.
@@ -44,47 +59,47 @@ pub fn depth_checks_of_runs(seeds: Range<u64>) -> Tally {
 }
 
 impl Tally {
-    /// How often the port was asked, and how often the oracle had an answer.
-    pub fn total(&self) -> Count {
-        let add = |total: Count, one: &Count| Count {
-            asked: total.asked + one.asked,
-            judged: total.judged + one.judged,
-        };
-        self.answers.values().fold(Count::default(), add)
+    /// How often the port was asked.
+    pub fn asked(&self) -> u64 {
+        self.answers.values().sum()
+    }
+
+    /// How often this one judged.
+    pub fn judged(&self, judge: Judge) -> u64 {
+        self.count(|(_, _, other)| other == judge)
     }
 
     /// How often the port gave this code and depth.
-    pub fn asked(&self, code: u32, depth: u32) -> u64 {
-        self.answers.get(&(code, depth)).map_or(0, |count| count.asked)
+    pub fn answered(&self, code: u32, depth: u32) -> u64 {
+        self.count(|(other, deep, _)| (other, deep) == (code, depth))
+    }
+
+    fn count(&self, which: impl Fn((u32, u32, Judge)) -> bool) -> u64 {
+        self.answers.iter().filter(|(key, _)| which(**key)).map(|(_, count)| count).sum()
     }
 
     /// Asks the port and the judges.
     pub fn compare(&mut self, tables: &Tables, what: impl FnOnce() -> String) {
         let answer = depth_check(tables);
-        let read = by_reading(tables);
-        let judged = judge::depth(tables);
-        let agree = match judged {
-            Ok(judge::Depth::Fine(depth)) => answer == Depth { code: 0, depth, place: 0 },
-            Ok(judge::Depth::TooDeep { place }) => {
-                answer == Depth { code: code::TOO_DEEP, depth: 0, place }
-            }
-            // What the oracle says of why it has no answer.
-            Err(CannotJudge::Rule(_)) => answer.code == code::RULE,
-            Err(CannotJudge::OpenSets) => answer.code == code::LIMIT,
-            Err(CannotJudge::Size) => true,
-            Err(_) => false,
+        let read = Depth::from(reading::depth(tables));
+        let asked = judge::depth(tables);
+        let (judge, agrees) = match &asked {
+            Ok(judged) => (Judge::Oracle, answer == reading::Depth::from(*judged).into()),
+            Err(CannotJudge::Rule(_)) => (Judge::RulesAlone, true),
+            Err(CannotJudge::OpenSets | CannotJudge::Size) => (Judge::ReadingAlone, true),
+            Err(_) => (Judge::ReadingAlone, false),
         };
-        let count = self.answers.entry((answer.code, answer.depth)).or_default();
-        count.asked += 1;
-        count.judged += u64::from(judged.is_ok());
-        if !agree || answer != read {
-            let differs = format!("port {answer:?}, oracle {judged:?}, reading {read:?}");
+        *self.answers.entry((answer.code, answer.depth, judge)).or_default() += 1;
+        if !agrees || answer != read {
+            let differs = format!("port {answer:?}, oracle {asked:?}, reading {read:?}");
             self.differences.push(format!("{}: {differs}", what()));
         }
     }
 }
 
-fn by_reading(tables: &Tables) -> Depth {
-    let reading::Depth { code, depth, place } = reading::depth(tables);
-    Depth { code, depth, place }
+impl From<reading::Depth> for Depth {
+    fn from(read: reading::Depth) -> Self {
+        let reading::Depth { code, depth, place } = read;
+        Depth { code, depth, place }
+    }
 }

@@ -1,7 +1,9 @@
-//! Lawful tables of full size: those with a limit stand at it. For measuring, so plain but for what
-//! a shape is about.
+//! Lawful tables of full size: those with a limit stand at it, but in the document that unfolds, which
+//! is small. For measuring, so plain but for what a shape is about. Some are what an enemy would send:
+//! rows that are shared as often as they can be, keys whose hashes are equal.
 
-use tables::layout::{answer_kind, limit, selection_kind, type_kind, value_kind, width, RESERVED};
+use tables::layout::{answer_kind, limit, selection_kind, type_kind, value_kind, width};
+use tables::layout::{DEPTH_FIELDS, RESERVED};
 use tables::Tables;
 
 /// Bytes of a short key: as many hexadecimal digits as number all nodes.
@@ -45,6 +47,178 @@ pub fn one_object_of_long_keys(keys: usize) -> Tables {
     tables.nodes = nodes(start, 1, length);
     make_objects(&mut tables, 1, keys);
     tables
+}
+
+/// What the port's hash of a key is multiplied by before each byte is added; it has 16 bits and begins
+/// at 0.
+const HASH_FACTOR: u32 = 40_503;
+
+/// The port's hash of a key.
+pub fn hash(key: &[u8]) -> u16 {
+    let step = |hash: u16, byte: &u8| (u32::from(hash) * HASH_FACTOR + u32::from(*byte)) as u16;
+    key.iter().fold(0, step)
+}
+
+/// One object of so many keys that have one length and one hash and differ late. This is what an
+/// enemy would do: the hash tells no two of them apart, so that all bytes are looked at.
+///
+/// Key i is `a` over and over, and at its end i times three bytes that have the hash of `aaa`. It
+/// begins 3 * i bytes behind the names.
+pub fn one_object_of_keys_with_one_hash(keys: usize) -> Tables {
+    let mut tables = plain();
+    let (start, length) = (NAMES_END, key_with_one_hash(keys));
+    let other = bytes_with_the_hash_of_aaa();
+    let (all_a, end) = tables.pool[start..].split_at_mut(length);
+    all_a.fill(b'a');
+    end.iter_mut().zip(other.iter().cycle()).for_each(|(byte, other)| *byte = *other);
+    tables.nodes = Vec::new();
+    for row in 0..limit::NODES {
+        // Node 0 is the object, the keys are those of the nodes behind it.
+        let key = row.clamp(1, keys) - 1;
+        let span = [word(start + other.len() * key), word(length)];
+        tables.nodes.extend([value_kind::STRING, span[0], span[1], span[0], span[1]]);
+    }
+    make_objects(&mut tables, 1, keys);
+    tables
+}
+
+/// How long so many of these keys can be.
+pub fn key_with_one_hash(keys: usize) -> usize {
+    limit::POOL - NAMES_END - 3 * (keys - 1)
+}
+
+/// A small search: the hash has 16 bits, so of all triples of printing bytes some must have it.
+fn bytes_with_the_hash_of_aaa() -> [u8; 3] {
+    let bytes = b' '..=b'~';
+    let pairs = bytes.clone().flat_map(|one| bytes.clone().map(move |two| (one, two)));
+    let mut triples = pairs.flat_map(|(one, two)| bytes.clone().map(move |last| [one, two, last]));
+    let found = triples.find(|triple| triple[0] != b'a' && hash(triple) == hash(b"aaa"));
+    found.expect("there are more triples than hashes")
+}
+
+/// Every answer is an object of the same children, one for each name.
+pub fn answers_that_share_children() -> Tables {
+    let mut tables = plain();
+    for row in tables.answers.chunks_exact_mut(width::ANSWERS) {
+        row[0] = answer_kind::OBJECT;
+        row[2..].copy_from_slice(&[word(FIRST_NAME), 1, word(limit::NAMES)]);
+    }
+    tables
+}
+
+/// As many fields as a type can have: one for each name but `__typename`.
+pub const FIELDS_OF_A_TYPE: usize = limit::NAMES - 1;
+
+/// Every type has the same fields, one for each name that a field may have.
+pub fn types_that_share_fields() -> Tables {
+    let mut tables = plain();
+    for (number, row) in tables.fields.chunks_exact_mut(width::FIELDS).enumerate() {
+        row[0] = word(1 + number % FIELDS_OF_A_TYPE);
+    }
+    for row in tables.types.chunks_exact_mut(width::TYPES) {
+        row[2..4].copy_from_slice(&[0, word(FIELDS_OF_A_TYPE)]);
+    }
+    tables
+}
+
+/// Every field has the same arguments, one for each name.
+pub fn fields_that_share_arguments() -> Tables {
+    let mut tables = plain();
+    for (number, row) in tables.arguments.chunks_exact_mut(width::ARGUMENTS).enumerate() {
+        row[0] = word(number % limit::NAMES);
+    }
+    for row in tables.fields.chunks_exact_mut(width::FIELDS) {
+        row[4..].copy_from_slice(&[0, word(limit::NAMES)]);
+    }
+    tables
+}
+
+/// Every selection is given the same arguments, one for each name.
+pub fn selections_that_share_arguments() -> Tables {
+    let mut tables = plain();
+    for (number, row) in tables.given.chunks_exact_mut(width::GIVEN).enumerate() {
+        row[0] = word(number % limit::NAMES);
+    }
+    for row in tables.selections.chunks_exact_mut(width::SELECTIONS) {
+        row[6..8].copy_from_slice(&[0, word(limit::NAMES)]);
+    }
+    tables
+}
+
+/// Half of the literals are objects of the same children, the other half, one for each name.
+pub fn literals_that_share_keys() -> Tables {
+    let mut tables = plain();
+    let objects = limit::LITERALS - limit::NAMES;
+    for (number, row) in tables.literals.chunks_exact_mut(width::LITERALS).enumerate() {
+        *row.last_mut().expect("a key") = word(number % limit::NAMES);
+        if number < objects {
+            row[..3].copy_from_slice(&[value_kind::OBJECT, word(objects), word(limit::NAMES)]);
+        } else {
+            row[0] = value_kind::NULL;
+        }
+    }
+    tables
+}
+
+/// How often each fragment is spread in [`deep_document`].
+pub const SPREADS: usize = limit::OPEN - 1;
+
+/// A document for a depth check near its limits: 31 sets within one another, and in each of them all
+/// 64 fragments are spread, so that 32 sets are open. A fragment is first met in the innermost set;
+/// in the others it is met again. The answer is depth 2.
+pub fn deep_document() -> Tables {
+    let mut tables = plain();
+    let spreads = SPREADS * limit::FRAGMENTS;
+    // The rows that go one set down stand before the spreads of their set, the fields at the end.
+    let fields = limit::SELECTIONS - spreads - (SPREADS - 1);
+    tables.sets.clear();
+    tables.selections.clear();
+    tables.fragments.clear();
+    for level in 0..SPREADS {
+        let first = tables.selection_count();
+        if level == 0 {
+            tables.selections.extend(selection(selection_kind::FIELD, *DEPTH_FIELDS.start(), 1));
+        } else if level + 1 < SPREADS {
+            tables.selections.extend(selection(selection_kind::INLINE, 0, word(level + 1)));
+        }
+        for fragment in 0..limit::FRAGMENTS {
+            let name = word(FIRST_NAME + fragment);
+            tables.selections.extend(selection(selection_kind::SPREAD, name, 0));
+        }
+        tables.sets.extend([first, tables.selection_count() - first]);
+    }
+    let first = tables.selection_count();
+    for _ in 0..fields {
+        tables.selections.extend(selection(selection_kind::FIELD, *DEPTH_FIELDS.end(), 0));
+    }
+    for fragment in 0..limit::FRAGMENTS {
+        let (name, set) = (word(FIRST_NAME + fragment), word(SPREADS + fragment));
+        tables.sets.extend([first, word(fields)]);
+        tables.fragments.extend([name, word(FIRST_NAME), set]);
+    }
+    tables
+}
+
+/// A document whose sets share selections: in each of so many levels there are two selections, and
+/// both lead to a set of the next two. A depth check goes through twice as many sets in each.
+pub fn document_that_unfolds(levels: usize) -> Tables {
+    let mut tables = plain();
+    tables.sets = vec![0, 2];
+    tables.selections.clear();
+    tables.fragments.clear();
+    for level in 0..levels {
+        let next = if level + 1 < levels { [word(2 * level + 2), 2] } else { [0, 0] };
+        for child in [2 * level + 1, 2 * level + 2] {
+            tables.selections.extend(selection(selection_kind::INLINE, 0, word(child)));
+            tables.sets.extend(next);
+        }
+    }
+    tables
+}
+
+/// A selection of a kind, with the words 4 and 8.
+fn selection(kind: u32, name: u32, set: u32) -> [u32; width::SELECTIONS] {
+    [kind, 0, 0, 0, name, 0, 0, 0, set, 0]
 }
 
 fn word(number: usize) -> u32 {

@@ -1,19 +1,17 @@
-//! How long a table check takes, in processor time of the calling thread: other work on the machine
-//! does not count, though it may slow the processor down.
+//! How long a call takes, in processor time of the calling thread: other work on the machine does not
+//! count, though it may slow the processor down.
 
-use crate::table_check;
 use std::hint::black_box;
 use std::time::Duration;
-use tables::Tables;
 
 /// The times of many calls, in order.
 pub struct Times(Vec<Duration>);
 
 impl Times {
-    pub fn of_table_check(tables: &Tables, calls: usize) -> Times {
+    pub fn of<T>(calls: usize, call: impl Fn() -> T) -> Times {
         let one = |_| {
             let start = processor_time();
-            black_box(table_check(black_box(tables)));
+            black_box(call());
             processor_time() - start
         };
         let mut times: Vec<Duration> = (0..calls.max(1)).map(one).collect();

@@ -1,7 +1,7 @@
 //! The port's depth check and the judges agree on some seeds; `port_depth` asks about as many as one
 //! likes. Document 01's two examples, and both sides of each limit.
 
-use port::depths::{depth_checks, depth_checks_of_runs, Tally};
+use port::depths::{depth_checks, depth_checks_of_runs, Judge, Tally};
 use port::{depth_check, Depth};
 use tables::{notation, Tables};
 
@@ -10,12 +10,15 @@ fn agrees_with_the_judges() {
     let tally = depth_checks(3_000_000..3_002_000);
     println!("{:?}", tally.answers);
     assert_eq!(tally.differences, Vec::<String>::new());
-    assert_eq!(tally.total().asked, 2_000);
-    assert!(tally.total().judged > 1_600, "the oracle has few answers: {:?}", tally.total());
+    assert_eq!(tally.asked(), 2_000);
+    let by_oracle = tally.judged(Judge::Oracle);
+    assert!(by_oracle > 1_600, "the oracle has few answers: {by_oracle}");
     for (code, depth) in [(0, 0), (0, 1), (0, 2), (3, 0), (8, 0)] {
-        let count = tally.asked(code, depth);
+        let count = tally.answered(code, depth);
         assert!(count > 100, "few have code {code} and depth {depth}: {count}");
     }
+    // Code 3, and here nothing else, is judged by the reading alone.
+    assert_eq!(tally.judged(Judge::ReadingAlone), tally.answered(3, 0));
 }
 
 #[test]
@@ -23,8 +26,9 @@ fn agrees_with_the_judges_on_tables_made_for_runs() {
     let tally = depth_checks_of_runs(3_000_000..3_000_300);
     println!("{:?}", tally.answers);
     assert_eq!(tally.differences, Vec::<String>::new());
-    assert_eq!(tally.total().asked, 600);
-    assert!(tally.asked(1, 0) > 100, "few are spoiled: {}", tally.asked(1, 0));
+    assert_eq!(tally.asked(), 600);
+    assert!(tally.answered(1, 0) > 100, "few are spoiled: {}", tally.answered(1, 0));
+    assert_eq!(tally.judged(Judge::RulesAlone), tally.answered(1, 0));
 }
 
 /// Demands the answer to a document; the judges have to agree.

@@ -4,7 +4,9 @@
 //! there is a difference.
 
 use port::compare::{bytes, table_checks};
+use port::table_check;
 use port::timing::Times;
+use std::hint::black_box;
 use std::process::ExitCode;
 use std::time::Instant;
 use tables::Tables;
@@ -38,7 +40,7 @@ fn main() -> ExitCode {
 }
 
 fn report_time(seed: u64, tables: &Tables) {
-    let times = Times::of_table_check(tables, TIMED_CALLS);
+    let times = Times::of(TIMED_CALLS, || table_check(black_box(tables)));
     println!("the largest lawful tables: seed {seed}, {} bytes", bytes(tables));
     print!("  pool {}", tables.pool.len());
     for (name, width, table) in tables.word_tables() {

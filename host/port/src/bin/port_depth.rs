@@ -1,9 +1,10 @@
 //! `port_depth FIRST COUNT` holds the port's depth check against the oracle, where that has an
 //! answer, and against the reading on so many seeds from the first on, with tables made for depth
 //! checks; `port_depth --runs FIRST COUNT` with tables made for runs, as made and spoiled. It prints
-//! the differences, and how often there was which code and depth. It fails if there is a difference.
+//! the differences, and how often there was which code and depth and who judged it. It fails if there
+//! is a difference.
 
-use port::depths::{depth_checks, depth_checks_of_runs, Count, Tally};
+use port::depths::{depth_checks, depth_checks_of_runs, Judge, Tally};
 use std::process::ExitCode;
 use std::time::Instant;
 
@@ -34,10 +35,13 @@ fn report(tally: &Tally, seconds: f64) {
     for difference in &tally.differences {
         println!("{difference}");
     }
-    for ((code, depth), Count { asked, judged }) in &tally.answers {
-        println!("{asked:9} code {code}, depth {depth}; {judged} of them judged by the oracle");
+    for ((code, depth, judge), count) in &tally.answers {
+        let depth = if *code == 0 { format!(" depth {depth}") } else { String::new() };
+        println!("{count:9} code {code}{depth}, {judge}");
     }
-    let Count { asked, judged } = tally.total();
-    println!("{asked:9} depth checks in {seconds:.1} s, {judged} of them judged by the oracle");
+    println!("{:9} depth checks in {seconds:.1} s", tally.asked());
+    for judge in [Judge::Oracle, Judge::ReadingAlone, Judge::RulesAlone] {
+        println!("{:9} of them {judge}", tally.judged(judge));
+    }
     println!("{:9} differences", tally.differences.len());
 }
