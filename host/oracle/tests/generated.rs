@@ -19,7 +19,7 @@ fn outcome(seed: u64, tally: &mut Tally) -> &'static str {
     let tables = generate::tables(seed);
     assert_eq!(rules::check(&tables), Ok(()), "seed {seed}");
     assert_eq!(generate::tables(seed), tables, "seed {seed} gives two cases");
-    let read = file::read(&file::write(&tables)).expect("a table file");
+    let read = file::read(file::write(&tables)).expect("a table file");
     let depth = judge::depth(&tables);
     assert_eq!(judge::depth(&read), depth, "seed {seed} by its file");
     let depth = match depth {
@@ -96,7 +96,7 @@ fn depth_seeds_reach_every_answer() {
         assert_eq!(rules::check(&tables), Ok(()), "seed {seed}");
         assert_eq!(generate::depth_tables(seed), tables, "seed {seed} gives two cases");
         let depth = judge::depth(&tables);
-        let read = file::read(&file::write_short(&tables)).expect("a table file");
+        let read = file::read(file::write_short(&tables)).expect("a table file");
         assert_eq!(judge::depth(&read), depth, "seed {seed} by its file");
         let answer = match depth {
             Ok(Depth::Fine(depth)) => format!("0 {depth}"),

@@ -4,7 +4,7 @@
 //! what document 01 and its readings ask for in every case: codes 1 to 8, runs in a given order,
 //! buffers that are too short. It was written from the documents and is compared with the oracle
 //! wherever the oracle has an answer; it has no part in what the oracle answers, but that its depth
-//! check stands before the Rust's, which need not end.
+//! check stands before the Rust's, which need not end: code 3 of a depth check is its word alone.
 //!
 //! * [`run`]: codes, buffers; `walk` executes and completes, `collect` collects, `coerce` coerces
 //!   arguments, `value` has the JSON values.

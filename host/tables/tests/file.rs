@@ -157,7 +157,7 @@ fn written_short() {
     let tables =
         notation::tables("type Q { a: Int  b: Int }", "{ a'1 a'1 a'1 b'2 }", "", "{ a: 1 }");
     let short = file::write_short(&tables);
-    assert_eq!(file::read(&short), file::read(&file::write(&tables)));
+    assert_eq!(file::read(&short), file::read(file::write(&tables)));
     assert!(short.contains("3 * 0 0 0 1 "), "equal rows stand once: {short}");
     assert!(!short.contains("[fragments]"), "an empty table is left out: {short}");
 }
@@ -168,5 +168,5 @@ fn written_short_with_equal_strings() {
     let tables = Tables { pool: b"ab".to_vec(), names: vec![0, 2, 0, 2], ..Tables::default() };
     let short = file::write_short(&tables);
     assert_eq!(short, "[names]\n\"ab\"\n\"ab\"\n");
-    assert_eq!(file::read(&short), file::read(&file::write(&tables)));
+    assert_eq!(file::read(&short), file::read(file::write(&tables)));
 }
