@@ -1,11 +1,14 @@
--- Sizes stay within their bounds when one of them is set to a number within its own. Assumes nothing.
+-- Sizes stay within their bounds when one of them is set to a number within its own, and bound what is held. Assumes nothing.
 use Prim.Native.Nat.{ℕ, suc, zero, _<_, _≤_}
-use mathlib.Core.Path.{_≡_}
+use mathlib.Core.Path.{_≡_, sym}
 use mathlib.Core.List.{List, [], _∷_}
 use native.Mathlib.Omega.{arith}
-use lib.ListN.{getD, set, replicate}
-use lib.Seq.{getD-set-other}
+use lib.ListN.{length, getD, set, replicate, length-take}
+use lib.Seq.{getD-set-other, take-all}
+use Rattle.rows.specs.Layout.{nameWidth}
+use Rattle.rows.specs.Rows.{rowsOf}
 use Rattle.table_file.specs.Sizes.{Within}
+use Rattle.table_file.specs.Held.{poolOf, tableOf}
 
 -- what bounds an element and what is stored bounds the element after the store
 pub set-below :
@@ -41,3 +44,21 @@ zeros-below (suc n) (suc k) b = zeros-below n k b
 -- where nothing is held, each size is within its bound
 pub nothing-held : (n : ℕ) → Within (replicate n 0)
 nothing-held n = record { pool = zeros-below n 0 69632; tables = λ k h. zeros-below n k 20640 }
+
+-- a size beyond the pool takes all of it
+pub whole-pool : (pool sizes : List ℕ) → length pool < getD sizes 0 0 → pool ≡ poolOf pool sizes
+unfolding poolOf
+whole-pool pool sizes h =
+    let l : length pool ≤ getD sizes 0 0 = omega arith in
+    sym (take-all (getD sizes 0 0) pool l)
+
+table-short : (words sizes : List ℕ) (k : ℕ) → Within sizes → 0 < k → length (tableOf words sizes k) ≤ 20640
+unfolding tableOf
+table-short words sizes k w h = simp length-take (omega (arith, w .tables k h))
+
+-- a row among the names is a small number
+pub few-names : (words sizes names : List ℕ) (row : ℕ) → Within sizes → names ≡ tableOf words sizes 1 → row ≤ rowsOf names nameWidth → row ≤ 10320
+unfolding rowsOf
+few-names words sizes names row w e h =
+    let l : length names ≤ 20640 = rw e (table-short words sizes 1 w (omega arith)) in
+    omega arith

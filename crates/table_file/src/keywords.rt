@@ -1,8 +1,8 @@
 // The words that stand for numbers, and the headings of the tables. Each list is in the order of the
 // numbers, so that a word's place in it says what it stands for.
 use crate::layout;
-use crate::scan::is_word;
 use crate::scan::token_end;
+use rows::strings::is_same;
 ghost use Prim.Native.Nat.{_≤_};
 
 pub enum Word {
@@ -16,7 +16,7 @@ fn place(token: &[u8], list: &[u8]) -> usize {
     let mut count = 0;
     while at < list.len() {
         let end = token_end(list, at);
-        if is_word(token, &list[at..end]) {
+        if is_same(token, &list[at..end]) {
             return count;
         }
         count += 1;
@@ -26,7 +26,7 @@ fn place(token: &[u8], list: &[u8]) -> usize {
 }
 
 // The table that a heading begins, or the number of tables where it begins none.
-pub fn heading(token: &[u8]) -> usize
+pub(crate) fn heading(token: &[u8]) -> usize
     ensures { λ r. ⌜ r ≤ 16 ⌝ }
 {
     let n = place(
@@ -80,7 +80,7 @@ fn node_word(token: &[u8]) -> Word {
     if n < 9 {
         return Word::Known(n as u32);
     }
-    if is_word(token, b"list") {
+    if is_same(token, b"list") {
         Word::Known(7)
     } else {
         Word::Unknown
@@ -88,10 +88,10 @@ fn node_word(token: &[u8]) -> Word {
 }
 
 fn literal_word(token: &[u8]) -> Word {
-    if is_word(token, b"enum") {
+    if is_same(token, b"enum") {
         return Word::Known(9);
     }
-    if is_word(token, b"variable") {
+    if is_same(token, b"variable") {
         return Word::Known(10);
     }
     node_word(token)
@@ -107,7 +107,7 @@ fn answer_word(token: &[u8]) -> Word {
 }
 
 // What a word stands for in a row of this table. `none` and `-` are 0 everywhere.
-pub fn keyword(number: usize, token: &[u8]) -> Word {
+pub(crate) fn keyword(number: usize, token: &[u8]) -> Word {
     if place(token, b"none -") < 2 {
         return Word::Known(0);
     }

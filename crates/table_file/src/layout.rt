@@ -2,6 +2,9 @@
 // but the pool has a region of the same size in one array of words, so that a table's first word
 // is found by a product. The region holds the largest table, 2,048 selections of ten words, with
 // sixteen rows to spare: what is one row too long for the table check can still be written.
+ghost use mathlib.Core.Path.{_≡_};
+ghost use lib.ListN.{replicate};
+
 pub const POOL: usize = 0;
 
 pub const NAMES: usize = 1;
@@ -51,10 +54,14 @@ pub type Words = [u32; WORDS];
 pub type Sizes = [usize; TABLES];
 
 // A pool and words in which nothing is held yet.
-pub fn new_pool() -> Pool {
+pub fn new_pool() -> Pool
+    ensures { λ r. ⌜ r ≡ replicate 69632 0 ⌝ }
+{
     [0; POOL_BYTES]
 }
 
-pub fn new_words() -> Words {
+pub fn new_words() -> Words
+    ensures { λ r. ⌜ r ≡ replicate 330240 0 ⌝ }
+{
     [0; WORDS]
 }

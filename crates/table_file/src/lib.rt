@@ -8,7 +8,7 @@ pub mod layout;
 mod lines;
 mod names;
 mod numbers;
-mod rows;
+mod row;
 mod scan;
 mod store;
 mod strings;

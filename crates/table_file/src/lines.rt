@@ -5,14 +5,14 @@ use crate::layout;
 use crate::layout::Pool;
 use crate::layout::Sizes;
 use crate::layout::Words;
-use crate::rows::row;
+use crate::row::row;
 use crate::scan::byte_at;
 use crate::scan::ends_line;
 use crate::scan::next_line;
 use crate::scan::skip_blanks;
 use crate::scan::token_end;
 ghost use mathlib.Core.Path.{_≡_};
-ghost use Prim.Native.Nat.{_+_, _≤_, _<_};
+ghost use Prim.Native.Nat.{_≤_, _<_};
 ghost use lib.ListN.{length};
 ghost use Rattle.table_file.specs.Sizes.{Within};
 

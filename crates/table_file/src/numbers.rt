@@ -7,7 +7,7 @@ pub struct Number {
     pub fault: u32,
 }
 
-pub fn is_digit(b: u8) -> bool {
+pub(crate) fn is_digit(b: u8) -> bool {
     b >= b'0' && b <= b'9'
 }
 
@@ -23,7 +23,7 @@ fn digit(b: u8) -> u64
 }
 
 // The number that a token spells.
-pub fn decimal(token: &[u8]) -> Number {
+pub(crate) fn decimal(token: &[u8]) -> Number {
     if token.len() == 0 {
         return Number {
             value: 0,
@@ -63,7 +63,7 @@ pub fn decimal(token: &[u8]) -> Number {
 }
 
 // The same, of a number that is a word.
-pub fn word_number(token: &[u8]) -> Number
+pub(crate) fn word_number(token: &[u8]) -> Number
     ensures { λ r. ⌜ r .value ≤ 4294967295 ⌝ }
 {
     let n = decimal(token);

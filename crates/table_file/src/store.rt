@@ -6,52 +6,50 @@ use crate::layout;
 use crate::layout::Sizes;
 use crate::layout::Words;
 ghost use mathlib.Core.Path.{_≡_};
-ghost use Prim.Native.Nat.{_+_, _*_, _≤_, _<_};
-ghost use lib.ListN.{length, getD, take, drop};
+ghost use Prim.Native.Nat.{_≤_, _<_};
+ghost use Rattle.table_file.specs.Held.{poolOf, tableOf, rootOf};
 ghost use Rattle.table_file.specs.Sizes.{Within};
 
-// The words of a table, in its region of the words.
+// The words of a table; those that are there, where they end before them.
 pub fn table<'a>(words: &'a [u32], sizes: Sizes, number: usize) -> &'a [u32]
-    ensures { λ r. ⌜ (Within sizes → 0 < number → number < 16 → length (now (words .entry)) ≡ 330240 → now r ≡ take (getD sizes number 0) (drop (number * 20640) (now (words .entry)))) ⌝ }
+    requires { ⌜ number < 16 ⌝ }
+    ensures { λ r. ⌜ now r ≡ tableOf (now (words .entry)) sizes number ⌝ }
 {
-    if number >= layout::TABLES {
-        return &words[..0];
-    }
-    let size = sizes[number];
-    if size > layout::REGION {
-        return &words[..0];
-    }
     let start = number * layout::REGION;
-    let end = start + size;
-    if end > words.len() {
-        return &words[..0];
+    let size = sizes[number];
+    if start <= words.len() {
+        if size <= words.len() - start {
+            &words[start..start + size]
+        } else {
+            &words[start..]
+        }
+    } else {
+        &words[..0]
     }
-    &words[start..end]
 }
 
-// The pool's bytes that are filled.
+// The pool's bytes that are filled; all of them, where it ends before them.
 pub fn pool_bytes<'a>(pool: &'a [u8], sizes: Sizes) -> &'a [u8]
-    ensures { λ r. ⌜ (Within sizes → length (now (pool .entry)) ≡ 69632 → now r ≡ take (getD sizes 0 0) (now (pool .entry))) ⌝ }
+    ensures { λ r. ⌜ now r ≡ poolOf (now (pool .entry)) sizes ⌝ }
 {
     let size = sizes[layout::POOL];
-    if size > pool.len() {
-        return &pool[..0];
+    if size <= pool.len() {
+        &pool[..size]
+    } else {
+        &pool[..]
     }
-    &pool[..size]
 }
 
 // The number of the root type: 0 unless it is given.
-pub fn root(words: &[u32], sizes: Sizes) -> u32 {
-    let size = sizes[layout::ROOT];
-    let place = layout::ROOT * layout::REGION;
-    if size > 0 && place < words.len() {
-        return words[place];
-    }
-    0
+pub fn root(words: &[u32], sizes: Sizes) -> u32
+    ensures { λ r. ⌜ r ≡ rootOf (now (words .entry)) sizes ⌝ }
+{
+    let given = table(words, sizes, layout::ROOT);
+    if 0 < given.len() { given[0] } else { 0 }
 }
 
 // How many words a table has.
-pub fn table_size(sizes: &Sizes, number: usize) -> usize
+pub(crate) fn table_size(sizes: &Sizes, number: usize) -> usize
     requires { ⌜ (0 < number) × (number < 16) × Within (now sizes) ⌝ }
     ensures { λ r. ⌜ r ≤ 20640 ⌝ }
 {
@@ -59,7 +57,7 @@ pub fn table_size(sizes: &Sizes, number: usize) -> usize
 }
 
 // How many bytes the pool has.
-pub fn pool_size(sizes: &Sizes) -> usize
+pub(crate) fn pool_size(sizes: &Sizes) -> usize
     requires { ⌜ Within (now sizes) ⌝ }
     ensures { λ r. ⌜ r ≤ 69632 ⌝ }
 {
@@ -67,7 +65,7 @@ pub fn pool_size(sizes: &Sizes) -> usize
 }
 
 // Notes how many bytes the pool has now.
-pub fn fill_pool(sizes: &mut Sizes, filled: usize)
+pub(crate) fn fill_pool(sizes: &mut Sizes, filled: usize)
     requires { ⌜ (filled ≤ 69632) × Within (now sizes) ⌝ }
     ensures { λ _. ⌜ Within (now (sizes .exit)) ⌝ }
 {
@@ -75,7 +73,7 @@ pub fn fill_pool(sizes: &mut Sizes, filled: usize)
 }
 
 // Puts a word at a table's end, where there is room.
-pub fn append(words: &mut Words, sizes: &mut Sizes, number: usize, word: u32) -> u32
+pub(crate) fn append(words: &mut Words, sizes: &mut Sizes, number: usize, word: u32) -> u32
     requires { ⌜ (0 < number) × (number < 16) × Within (now sizes) ⌝ }
     ensures { λ r. ⌜ Within (now (sizes .exit)) ⌝ }
 {

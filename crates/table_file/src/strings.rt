@@ -142,7 +142,7 @@ fn closed(text: &[u8], at: usize, filled: usize) -> Spelled
 }
 
 // Appends the bytes of the string whose opening quote stands before `from`.
-pub fn string(text: &[u8], from: usize, pool: &mut Pool, before: usize) -> Spelled
+pub(crate) fn string(text: &[u8], from: usize, pool: &mut Pool, before: usize) -> Spelled
     requires { ⌜ (from ≤ length (now text)) × (before ≤ 69632) ⌝ }
     ensures { λ r. ⌜ (from ≤ r .at) × (r .at ≤ length (now (text .entry))) × (before ≤ r .filled) × (r .filled ≤ 69632) ⌝ }
 {

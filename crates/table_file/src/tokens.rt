@@ -7,17 +7,19 @@ use crate::layout::Pool;
 use crate::layout::Sizes;
 use crate::layout::Words;
 use crate::names::find_name;
-use crate::names::name_rows;
 use crate::numbers::decimal;
 use crate::numbers::is_digit;
 use crate::numbers::word_number;
 use crate::scan::token_end;
 use crate::store::append;
 use crate::store::fill_pool;
+use crate::store::pool_bytes;
 use crate::store::pool_size;
+use crate::store::table;
 use crate::strings::string;
-ghost use mathlib.Core.Path.{_≡_};
-ghost use Prim.Native.Nat.{_+_, _*_, _≤_, _<_};
+use rows::layout::row_count;
+use rows::names::NAME_WIDTH;
+ghost use Prim.Native.Nat.{_≤_, _<_};
 ghost use lib.ListN.{length};
 ghost use Rattle.table_file.specs.Sizes.{Within};
 
@@ -83,15 +85,15 @@ fn number_value(token: &[u8]) -> Value
 }
 
 // The number of a name, and so much more.
-fn name_value(name: &[u8], more: usize, pool: &Pool, words: &Words, sizes: &Sizes) -> Value
+fn name_value(name: &[u8], more: u32, pool: &Pool, words: &Words, sizes: &Sizes) -> Value
     requires { ⌜ (more ≤ 3) × Within (now sizes) ⌝ }
 {
-    let rows = name_rows(sizes);
-    let row = find_name(name, pool, words, rows);
-    if row == rows {
+    let names = table(words, *sizes, layout::NAMES);
+    let row = find_name(name, pool_bytes(pool, *sizes), names);
+    if row == row_count(names, NAME_WIDTH) {
         return no_value(fault::UNKNOWN_NAME);
     }
-    one((row + more) as u32)
+    one(row + more)
 }
 
 // Behind `@`: one more than a number or than a name's number.
@@ -202,7 +204,7 @@ fn string_token(
 }
 
 // Reads the token at `at`.
-pub fn token(
+pub(crate) fn token(
     number: usize,
     text: &[u8],
     at: usize,

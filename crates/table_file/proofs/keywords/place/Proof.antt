@@ -17,17 +17,17 @@ loop-holds c = search needs
 token-end-requires : tie.Need-token-end-requires Inv-loop μ-loop
 token-end-requires c κs = search needs
 
-sub-is-word : tie.Need-sub-is-word Inv-loop μ-loop
-sub-is-word c = search needs
+sub-is-same : tie.Need-sub-is-same Inv-loop μ-loop
+sub-is-same c = search needs
 
-part-is-word-start : tie.Need-part-is-word-start Inv-loop μ-loop
-part-is-word-start c = search needs
+part-is-same-start : tie.Need-part-is-same-start Inv-loop μ-loop
+part-is-same-start c = search needs
 
-part-is-word-end : tie.Need-part-is-word-end Inv-loop μ-loop
-part-is-word-end c = search needs
+part-is-same-end : tie.Need-part-is-same-end Inv-loop μ-loop
+part-is-same-end c = search needs
 
-is-word-requires : tie.Need-is-word-requires Inv-loop μ-loop
-is-word-requires c κs = search needs
+is-same-requires : tie.Need-is-same-requires Inv-loop μ-loop
+is-same-requires c κs = search needs
 
 returns : tie.Need-returns Inv-loop μ-loop
 returns c = search needs
@@ -55,10 +55,10 @@ place-spec =
     μ-loop
     loop-holds
     token-end-requires
-    sub-is-word
-    part-is-word-start
-    part-is-word-end
-    is-word-requires
+    sub-is-same
+    part-is-same-start
+    part-is-same-end
+    is-same-requires
     returns
     add-count
     add-at

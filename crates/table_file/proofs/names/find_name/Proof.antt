@@ -1,14 +1,17 @@
--- `table_file::names::find_name` looks at rows below the number of rows, one after the other. Assumes nothing.
-use borrow.Author.Needs.{needs}
+-- The rows passed are below the number of rows. Assumes nothing.
 use Prim.Native.Nat.{_≤_, _-_}
+use borrow.Author.Needs.{needs}
 use Rattle.table_file.proofs.names.find_name.Statement.{statement}
 use Rattle.table_file.proofs.names.find_name.Tie as tie
 
 abbrev Inv-loop : tie.InvT-loop
-Inv-loop name pool words rows row₀ row = row ≤ rows
+Inv-loop name pool names rows row₀ row = row ≤ rows
 
 abbrev μ-loop : tie.MeasureT-loop
-μ-loop name pool words rows row₀ row = rows - row
+μ-loop name pool names rows row₀ row = rows - row
+
+row-count-requires : tie.Need-row-count-requires Inv-loop μ-loop
+row-count-requires c κs = search needs
 
 loop-holds : tie.Need-loop-holds Inv-loop μ-loop
 loop-holds c = search needs
@@ -37,6 +40,7 @@ find-name-spec =
     (tie.spec
     Inv-loop
     μ-loop
+    row-count-requires
     loop-holds
     is-name-of-row-requires
     returns

@@ -1,9 +1,9 @@
--- `table_file::rows::once_more` reads words of its own region and appends them one by one. Assumes nothing.
+-- `table_file::row::once_more` reads words of its own region and appends them one by one. Assumes nothing.
 use borrow.Author.Needs.{needs}
 use Prim.Native.Nat.{_≤_, _-_}
 use Rattle.table_file.specs.Sizes.{Within}
-use Rattle.table_file.proofs.rows.once_more.Statement.{statement}
-use Rattle.table_file.proofs.rows.once_more.Tie as tie
+use Rattle.table_file.proofs.row.once_more.Statement.{statement}
+use Rattle.table_file.proofs.row.once_more.Tie as tie
 
 abbrev Inv-loop : tie.InvT-loop
 Inv-loop words₀ sizes₀ number start count k₀ words sizes k = Within sizes × (k ≤ count)

@@ -1,11 +1,11 @@
--- `table_file::rows::repeat` keeps the sizes within their bounds, since each copy of the row does; the measure is the copies that are left. Assumes nothing.
+-- `table_file::row::repeat` keeps the sizes within their bounds, since each copy of the row does; the measure is the copies that are left. Assumes nothing.
 use borrow.Author.Needs.{needs}
 use Prim.Native.Nat.{_-_}
 use Rattle.table_file.specs.Sizes.{Within}
 use Rattle.table_file.proofs.Held.{table-set}
 use native.Mathlib.Omega.{arith}
-use Rattle.table_file.proofs.rows.repeat.Statement.{statement}
-use Rattle.table_file.proofs.rows.repeat.Tie as tie
+use Rattle.table_file.proofs.row.repeat.Statement.{statement}
+use Rattle.table_file.proofs.row.repeat.Tie as tie
 
 abbrev Inv-loop : tie.InvT-loop
 Inv-loop words₀ sizes₀ number start count times done₀ words sizes done = Within sizes

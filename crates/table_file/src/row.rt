@@ -8,13 +8,13 @@ use crate::numbers::is_digit;
 use crate::numbers::word_number;
 use crate::scan::byte_at;
 use crate::scan::ends_line;
-use crate::scan::is_word;
 use crate::scan::skip_blanks;
 use crate::scan::token_end;
 use crate::store::append;
 use crate::store::table_size;
 use crate::tokens::Step;
 use crate::tokens::token;
+use rows::strings::is_same;
 ghost use Prim.Native.Nat.{_+_, _≤_, _<_};
 ghost use lib.ListN.{length};
 ghost use Rattle.table_file.specs.Sizes.{Within};
@@ -41,7 +41,7 @@ fn times_of(text: &[u8], from: usize) -> Times
     let end = token_end(text, from);
     let star = skip_blanks(text, end);
     let star_end = token_end(text, star);
-    if !is_word(&text[star..star_end], b"*") {
+    if !is_same(&text[star..star_end], b"*") {
         return Times {
             at: from,
             times: 1,
@@ -169,7 +169,7 @@ fn words_row(
 }
 
 // The row whose first token stands at `from`.
-pub fn row(
+pub(crate) fn row(
     number: usize,
     text: &[u8],
     from: usize,

@@ -1,10 +1,10 @@
--- `table_file::rows::tokens` stays within the text and keeps the sizes within their bounds; each token moves on by a byte at least. Assumes nothing.
+-- `table_file::row::tokens` stays within the text and keeps the sizes within their bounds; each token moves on by a byte at least. Assumes nothing.
 use borrow.Author.Needs.{needs}
 use Prim.Native.Nat.{_≤_, _-_}
 use lib.ListN.{length}
 use Rattle.table_file.specs.Sizes.{Within}
-use Rattle.table_file.proofs.rows.tokens.Statement.{statement}
-use Rattle.table_file.proofs.rows.tokens.Tie as tie
+use Rattle.table_file.proofs.row.tokens.Statement.{statement}
+use Rattle.table_file.proofs.row.tokens.Tie as tie
 
 abbrev Inv-loop : tie.InvT-loop
 Inv-loop number text from pool₀ words₀ sizes₀ at₀ pool words sizes at = (from ≤ at) × (at ≤ length text) × Within sizes
