@@ -1,17 +1,22 @@
 // The public entries over what a table file holds.
+ghost use mathlib.Core.Path.{_≡_};
+ghost use Rattle.tables.specs.Lawful.{tableCode};
+ghost use Rattle.graphql.specs.Depth.{depthReport};
+ghost use Rattle.introspection.specs.MaxDepth.{Answers};
+ghost use Rattle.verdict.specs.Held.{held};
 use introspection::max_depth::DepthAnswer;
 use introspection::max_depth::depth_check;
 use table_file::layout;
-use table_file::layout::Pool;
 use table_file::layout::Sizes;
-use table_file::layout::Words;
 use table_file::pool_bytes;
 use table_file::root;
 use table_file::table;
 use tables::check::table_check;
 
 // The table check's answer.
-pub fn code(pool: &Pool, words: &Words, sizes: Sizes) -> u32 {
+pub fn code(pool: &[u8], words: &[u32], sizes: Sizes) -> u32
+    ensures { λ r. ⌜ r ≡ tableCode (held (now (pool .entry)) (now (words .entry)) sizes) ⌝ }
+{
     table_check(
         pool_bytes(pool, sizes),
         table(words, sizes, layout::NAMES),
@@ -33,7 +38,9 @@ pub fn code(pool: &Pool, words: &Words, sizes: Sizes) -> u32 {
 }
 
 // The depth check's answer.
-pub fn depth(pool: &Pool, words: &Words, sizes: Sizes) -> DepthAnswer {
+pub fn depth(pool: &[u8], words: &[u32], sizes: Sizes) -> DepthAnswer
+    ensures { λ r. ⌜ Answers r (depthReport (held (now (pool .entry)) (now (words .entry)) sizes)) ⌝ }
+{
     depth_check(
         pool_bytes(pool, sizes),
         table(words, sizes, layout::NAMES),

@@ -1,7 +1,7 @@
 // The text of a file, as far as it has room.
 ghost use mathlib.Core.Path.{_≡_};
 ghost use Prim.Native.Nat.{_≤_};
-ghost use lib.ListN.{take};
+ghost use lib.ListN.{take, replicate};
 
 pub const FINE: u32 = 0;
 
@@ -21,7 +21,9 @@ pub struct Text {
     pub fault: u32,
 }
 
-pub fn new_text() -> Room {
+pub fn new_text() -> Room
+    ensures { λ r. ⌜ r ≡ replicate 1048576 0 ⌝ }
+{
     [0; ROOM]
 }
 

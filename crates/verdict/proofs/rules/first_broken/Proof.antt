@@ -1,26 +1,45 @@
--- `verdict::rules::first_broken` asks one row after the other; the measure is the rows that are left. Assumes nothing.
-use borrow.Author.Needs.{needs}
+-- The rule holds at the rows passed; the first at which it does not ends the search. Assumes nothing.
+use mathlib.Core.Path.{_≡_, sym}
+use mathlib.Core.Bool.{true}
 use Prim.Native.Nat.{_≤_, _-_}
+use Rattle.rows.specs.Rows.{all}
+use Rattle.rows.proofs.Every.{falsified, all-none, all-more, all-ended}
+use Rattle.tables.specs.Rules.{ruleAt, holdsAt, obeyed}
+use Rattle.verdict.specs.Held.{held}
+use borrow.Author.Needs.{needs}
 use Rattle.verdict.proofs.rules.first_broken.Statement.{statement}
 use Rattle.verdict.proofs.rules.first_broken.Tie as tie
 
 abbrev Inv-loop : tie.InvT-loop
-Inv-loop rule pool words sizes count row₀ row = row ≤ count
+Inv-loop rule pool words sizes count row₀ row =
+    (row ≤ count) × (all (holdsAt (ruleAt rule) (held pool words sizes)) row ≡ true)
 
 abbrev μ-loop : tie.MeasureT-loop
 μ-loop rule pool words sizes count row₀ row = count - row
 
-rows-requires : tie.Need-rows-requires Inv-loop μ-loop
-rows-requires c κs = search needs
+is-obeyed-by-keys-requires : tie.Need-is-obeyed-by-keys-requires Inv-loop μ-loop
+is-obeyed-by-keys-requires c κs = search needs
+
+returns : tie.Need-returns Inv-loop μ-loop
+returns c = c .before .is-obeyed-by-keys .ensures (c .if1 .taken)
+
+row-count-requires : tie.Need-row-count-requires Inv-loop μ-loop
+row-count-requires c κs = search needs
 
 loop-holds : tie.Need-loop-holds Inv-loop μ-loop
-loop-holds c = search needs
+loop-holds c = (search needs, all-none _)
 
 holds-at-requires : tie.Need-holds-at-requires Inv-loop μ-loop
 holds-at-requires c κs = search needs
 
-returns : tie.Need-returns Inv-loop μ-loop
-returns c = search needs
+returns-2 : tie.Need-returns-2 Inv-loop μ-loop
+returns-2 c =
+    let looked = c .before .before .before in
+    record {
+      there = rw (← (looked .before .row-count .ensures)) (c .before .before .loop-test .taken);
+      broken = falsified _ _ (c .before .holds-at .ensures) (c .if2 .taken);
+      before = looked .loop .inv .1;
+    }
 
 add-row : tie.Need-add-row Inv-loop μ-loop
 add-row c = search needs
@@ -29,10 +48,13 @@ loop-less : tie.Need-loop-less Inv-loop μ-loop
 loop-less c = search needs
 
 loop-again : tie.Need-loop-again Inv-loop μ-loop
-loop-again c = search needs
+loop-again c = (search needs, all-more _ (c .before .before .before .loop .row) (c .before .holds-at .result) (c .before .before .before .loop .inv .1) (c .before .holds-at .ensures) (c .if2 .left))
 
-returns-2 : tie.Need-returns-2 Inv-loop μ-loop
-returns-2 c = search needs
+returns-3 : tie.Need-returns-3 Inv-loop μ-loop
+unfolding obeyed
+returns-3 c =
+    let looked = c .before in
+    rw (← (looked .before .row-count .ensures)) (sym (all-ended _ (looked .loop .row) _ (looked .loop .inv .1) (looked .loop .inv .0) (c .loop-test .left)))
 
 pub first-broken-spec : {M : Type 1} → statement M
 first-broken-spec =
@@ -40,11 +62,13 @@ first-broken-spec =
     (tie.spec
     Inv-loop
     μ-loop
-    rows-requires
+    is-obeyed-by-keys-requires
+    returns
+    row-count-requires
     loop-holds
     holds-at-requires
-    returns
+    returns-2
     add-row
     loop-less
     loop-again
-    returns-2)
+    returns-3)
