@@ -21,7 +21,7 @@ fn line_start(list: &[u8], number: usize) -> usize
 }
 
 // The line of this number, without its end.
-pub fn line(list: &[u8], number: usize) -> &[u8] {
+pub(crate) fn line(list: &[u8], number: usize) -> &[u8] {
     let from = line_start(list, number);
     let to = line_end(list, from);
     &list[from..to]

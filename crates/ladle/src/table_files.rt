@@ -7,8 +7,11 @@ use table_file::layout;
 use table_file::layout::Pool;
 use table_file::layout::Sizes;
 use table_file::layout::Words;
+use tables::check::LAWFUL;
+use tables::check::UNLAWFUL;
 use verdict::entries;
 use verdict::file;
+use verdict::words::print_depth as print_depth_answer;
 
 // What is asked about a file's tables.
 pub enum Question {
@@ -54,32 +57,20 @@ fn print_code(pool: &Pool, words: &Words, sizes: Sizes) {
     let code = entries::code(pool, words, sizes);
     say::number(code as u64);
     say::words(b"\n");
-    if code != 0 {
+    if code != LAWFUL {
         explain::print_broken_rules(pool, words, sizes);
     }
 }
 
-// The depth check's code, and behind it the depth, or the place at which it is too deep. Tables that are not lawful are
-// answered as the table check answers them.
+// The depth check's answer, and under it what is wrong where the tables are not lawful.
 fn print_depth(pool: &Pool, words: &Words, sizes: Sizes) {
     let answer = entries::depth(pool, words, sizes);
     let code = answer.code;
-    match code {
-        0 => {
-            say::words(b"0 depth ");
-            say::number(answer.depth as u64);
-        }
-        1 => {
-            print_code(pool, words, sizes);
-            return;
-        }
-        8 => {
-            say::words(b"8 place ");
-            say::number(answer.place as u64);
-        }
-        _ => say::number(code as u64),
-    }
+    print_depth_answer(answer);
     say::words(b"\n");
+    if code == UNLAWFUL {
+        explain::print_broken_rules(pool, words, sizes);
+    }
 }
 
 fn print_answer(question: Question, pool: &Pool, words: &Words, sizes: Sizes) {
@@ -110,7 +101,7 @@ fn answer_text(question: Question, path: &[u8], is_one_of_several: bool, text: &
     print_answer(question, &pool, &words, sizes);
 }
 
-pub fn answer(question: Question, path: &[u8], is_one_of_several: bool) {
+pub(crate) fn answer(question: Question, path: &[u8], is_one_of_several: bool) {
     let mut text = file::new_text();
     let read = file::read_text(path, &mut text);
     if read.fault != file::FINE {

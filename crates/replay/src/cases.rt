@@ -14,7 +14,7 @@ fn begins_case(text: &[u8], at: usize) -> bool {
 }
 
 // The first place from `from` on at which a case begins; the text's end where none does.
-pub fn next_case(text: &[u8], from: usize) -> usize
+pub(crate) fn next_case(text: &[u8], from: usize) -> usize
     requires { ⌜ from ≤ length (now text) ⌝ }
     ensures { λ r. ⌜ (from ≤ r) × (r ≤ length (now (text .entry))) ⌝ }
 {

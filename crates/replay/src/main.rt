@@ -1,4 +1,4 @@
-// Replays recorded cases: for each case of a file its label, and the depth check's code, depth and place.
+// Replays recorded cases: for each case of a file its label, and the depth check's answer.
 mod cases;
 
 use cases::next_case;
@@ -8,13 +8,10 @@ use table_file::layout;
 use verdict::entries;
 use verdict::file;
 use verdict::lines::line_end;
+use verdict::words::print_depth;
 
 fn say(text: &[u8]) {
     io::write_all(STDOUT_FILENO, text);
-}
-
-fn say_number(n: u32) {
-    io::print_decimal(STDOUT_FILENO, n as u64);
 }
 
 fn answer_tables(text: &[u8]) {
@@ -27,12 +24,7 @@ fn answer_tables(text: &[u8]) {
         return;
     }
     let sizes = contents.sizes;
-    let answer = entries::depth(&pool, &words, sizes);
-    say_number(answer.code);
-    say(b" ");
-    say_number(answer.depth);
-    say(b" ");
-    say_number(answer.place);
+    print_depth(entries::depth(&pool, &words, sizes));
 }
 
 // What stands behind `@ ` on a case's first line.
@@ -64,6 +56,10 @@ fn replay(text: &[u8]) {
 fn replay_argument(number: usize) {
     let mut path = io::buffer();
     let n = os::arg(number, &mut path);
+    if os::errno() != 0 {
+        say(b"a file's name is longer than a path may be\n");
+        return;
+    }
     let mut text = file::new_text();
     let read = file::read_text(&path[..n], &mut text);
     if read.fault != file::FINE {
