@@ -5,6 +5,9 @@ use cases::next_case;
 use libc::STDOUT_FILENO;
 use table_file::fault;
 use table_file::layout;
+use table_file::layout::Pool;
+use table_file::layout::Sizes;
+use table_file::layout::Words;
 use verdict::entries;
 use verdict::file;
 use verdict::lines::line_end;
@@ -12,6 +15,10 @@ use verdict::words::print_depth;
 
 fn say(text: &[u8]) {
     io::write_all(STDOUT_FILENO, text);
+}
+
+fn print_answer(pool: &Pool, words: &Words, sizes: Sizes) {
+    print_depth(entries::depth(pool, words, sizes));
 }
 
 fn answer_tables(text: &[u8]) {
@@ -24,7 +31,7 @@ fn answer_tables(text: &[u8]) {
         return;
     }
     let sizes = contents.sizes;
-    print_depth(entries::depth(&pool, &words, sizes));
+    print_answer(&pool, &words, sizes);
 }
 
 // What stands behind `@ ` on a case's first line.
