@@ -144,17 +144,17 @@ fn print_line(rule: u32, row: u32) {
     say::words(b"\n");
 }
 
-// The rules that go through the rows of a range: that no two fields of a type, arguments of a field, arguments given or answers of an
-// object have the same name, that no two nodes or literals of an object have the same key, and that child sets are larger.
+// The rules that go through ranges of rows: no two names are the same, and no two fields of a type, arguments of a field, arguments given
+// or answers of an object have the same name, nodes or literals of an object the same key; child sets are larger than their set.
 fn walks_ranges(rule: u32) -> bool {
     match rule {
-        23 | 25 | 30 | 33 | 38 | 40 | 44 => true,
+        16 | 23 | 25 | 30 | 33 | 38 | 40 | 44 => true,
         _ => false,
     }
 }
 
-// Prints the rule if it is broken, and answers whether it is. A rule that walks ranges is asked only where no earlier rule is broken:
-// nothing else says that a range ends before four thousand million rows.
+// Prints the rule if it is broken, and answers whether it is. A rule that walks ranges is asked only where no earlier rule is broken: it
+// is the earlier ones that bound how long a range is, how many rows share it, and how long a name is.
 fn is_printed(rule: u32, is_any: bool, pool: &Pool, words: &Words, sizes: Sizes) -> bool {
     if is_any && walks_ranges(rule) {
         return false;
