@@ -2,6 +2,7 @@
 use Prim.Native.Nat.{ℕ, _*_}
 use mathlib.Core.List.{List}
 use lib.ListN.{getD, take, drop}
+use Rattle.table_file.specs.Sizes.{region}
 
 -- the pool's bytes, which are counted at 0
 unfoldable pub poolOf : List ℕ → List ℕ → List ℕ
@@ -9,7 +10,7 @@ poolOf pool sizes = take (getD sizes 0 0) pool
 
 -- the words of the table of this number: each has a region of the same size, one behind the other
 unfoldable pub tableOf : List ℕ → List ℕ → ℕ → List ℕ
-tableOf words sizes number = take (getD sizes number 0) (drop (number * 20640) words)
+tableOf words sizes number = take (getD sizes number 0) (drop (number * region) words)
 
 -- the number of the root type, the one word of the last table; 0 where there is none
 unfoldable pub rootOf : List ℕ → List ℕ → ℕ
