@@ -2,7 +2,7 @@
 ghost use Prim.Native.Nat.{_≤_};
 ghost use lib.ListN.{length};
 
-// A case begins with `@` at the start of a line.
+// A case begins with `@` at the start of a line. A row of its tables that begins with `@` has a blank before it.
 fn begins_case(text: &[u8], at: usize) -> bool {
     if at >= text.len() {
         return false;

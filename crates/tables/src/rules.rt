@@ -55,7 +55,7 @@ use rows::schema::type_row;
 pub const RULE_COUNT: u32 = 46;
 
 // The number of `ValueRule::NodeKeysDiffer`.
-const NODE_KEYS_DIFFER: u32 = 38;
+pub const NODE_KEYS_DIFFER: u32 = 38;
 
 // How many rows a table has.
 pub enum SizeRule {

@@ -10,12 +10,10 @@ use table_file::layout::Sizes;
 use table_file::pool_bytes;
 use table_file::root;
 use table_file::table;
+use tables::rules::NODE_KEYS_DIFFER;
 use tables::rules::rule_at;
 use tables::rules::rule_holds_at;
 use tables::rules::rule_rows;
-
-// The number of the rule on the keys of nodes.
-const NODE_KEYS_DIFFER: u32 = 38;
 
 // The first row at which a rule is broken, if there is one.
 pub enum Broken {
