@@ -1,4 +1,4 @@
--- What a run means, in reading order; then the cases A to N and four runs more, and the statement that the order of work doesn't show.
+-- What a run means, in reading order; then the cases A to N and five runs more, and the statement that the order of work doesn't show.
 pub mod Run
 pub mod Json
 pub mod Containers
