@@ -1,24 +1,38 @@
--- `verdict::lines::line_end` stays between where it began and the text's end. Assumes nothing.
+-- No line feed stands before the place that is looked at; one at it ends the line. Assumes nothing.
 use borrow.Author.Needs.{needs}
-use Prim.Native.Nat.{_≤_, _-_}
-use lib.ListN.{length}
+use mathlib.Core.Path.{_≡_}
+use mathlib.Core.List.{List}
+use Prim.Native.Nat.{ℕ, suc, _+_, _≤_, _<_, _-_}
+use native.Mathlib.Decide.{decLe}
+use native.Mathlib.Omega.{arith}
+use lib.ListN.{length, getD}
 use Rattle.verdict.proofs.lines.line_end.Statement.{statement}
 use Rattle.verdict.proofs.lines.line_end.Tie as tie
 
+-- one more place without a line feed
+further :
+    (text : List ℕ) (from at : ℕ) → ((k : ℕ) → from ≤ k → k < at → getD text k 0 ≡ 10 → ⊥) → (getD text at 0 ≡ 10 → ⊥)
+    → (k : ℕ) → from ≤ k → k < at + 1 → getD text k 0 ≡ 10 → ⊥
+further text from at before other k l h e = go (decLe (suc k) at)
+  where
+    go : Dec (suc k ≤ at) → ⊥
+    go (yes p) = before k l p e
+    go (no p) = let s : at ≡ k = omega arith in other (rw s e)
+
 abbrev Inv-loop : tie.InvT-loop
-Inv-loop text from at₀ at = (from ≤ at) × (at ≤ length text)
+Inv-loop text from at₀ at = (from ≤ at) × (at ≤ length text) × ((k : ℕ) → from ≤ k → k < at → getD text k 0 ≡ 10 → ⊥)
 
 abbrev μ-loop : tie.MeasureT-loop
 μ-loop text from at₀ at = length text - at
 
 loop-holds : tie.Need-loop-holds Inv-loop μ-loop
-loop-holds c = search needs
+loop-holds c = (search needs, search needs, λ k l h e. omega arith)
 
 shared-slice-read-if1 : tie.Need-shared-slice-read-if1 Inv-loop μ-loop
 shared-slice-read-if1 c = search needs
 
 returns : tie.Need-returns Inv-loop μ-loop
-returns c = search needs
+returns c = (search needs, search needs, record { inside = c .before .before .before .loop .inv .2; ended = λ h. c .if1 .taken })
 
 add-at : tie.Need-add-at Inv-loop μ-loop
 add-at c = search needs
@@ -27,10 +41,10 @@ loop-less : tie.Need-loop-less Inv-loop μ-loop
 loop-less c = search needs
 
 loop-again : tie.Need-loop-again Inv-loop μ-loop
-loop-again c = search needs
+loop-again c = (search needs, search needs, further (c .before .before .before .before .args .text .now) _ _ (c .before .before .before .loop .inv .2) (c .if1 .left))
 
 returns-2 : tie.Need-returns-2 Inv-loop μ-loop
-returns-2 c = search needs
+returns-2 c = (search needs, search needs, record { inside = c .before .loop .inv .2; ended = λ h. absurd (omega arith) })
 
 pub line-end-spec : {M : Type 1} → statement M
 line-end-spec =
