@@ -2,7 +2,7 @@
 -- let through. The other worked runs stand in the crates `limits` and `worked`.
 use mathlib.Core.List.{List, [], _∷_}
 use Rattle.graphql.specs.Run.{name, index}
-use Rattle.graphql.specs.Kit.{'Query, 'f, 'g, 'a, 'b, 'y, 'v, 'F, queries, sets, selections, fragments, nodes, answers, selection, literal, field, set, if-true, ask, spread, fragment, objectLiteral, variable, under, wholeNumber, errs, leafOf, listAnswer, objectAnswer, :Int, :[Int], :[Int]!, :P, over, one, echo, Case, error, fFails, chosen, answered, refusedAt}
+use Rattle.graphql.specs.Kit.{'Query, 'f, 'a, 'b, 'y, 'v, 'F, queries, sets, selections, fragments, nodes, answers, selection, literal, field, set, if-true, ask, spread, fragment, objectLiteral, variable, under, wholeNumber, errs, leafOf, listAnswer, objectAnswer, :Int, :[Int], :[Int]!, :P, over, one, echo, Case, error, fFails, chosen, answered, refusedAt}
 
 abbrev pub apartRuns : List Case
 apartRuns =
