@@ -5,12 +5,6 @@ use borrow.Author.Needs.{needs}
 use Rattle.introspection.proofs.max_depth.depth_check.Statement.{statement}
 use Rattle.introspection.proofs.max_depth.depth_check.Tie as tie
 
-table-check-requires : tie.Need-table-check-requires
-table-check-requires c κs = search needs
-
-code-requires : tie.Need-code-requires
-code-requires c κs = search needs
-
 returns : tie.Need-returns
 returns c = report-unlawful _ (c .before .before .table-check .ensures) (c .before .if1 .taken) (c .code .ensures)
 
@@ -23,4 +17,4 @@ returns-2 c = report-checked _ (c .before .before .table-check .ensures) (c .bef
 pub depth-check-spec : {M : Type 1} → statement M
 depth-check-spec =
     tie.close
-    (tie.spec table-check-requires code-requires returns depth-of-operation-requires returns-2)
+    (tie.spec (λ c κs. search needs) (λ c κs. search needs) returns depth-of-operation-requires returns-2)

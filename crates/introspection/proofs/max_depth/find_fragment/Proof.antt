@@ -11,23 +11,11 @@ Inv-loop fragments name count row₀ row = Seeking fragments name count row
 abbrev μ-loop : tie.MeasureT-loop
 μ-loop fragments name count row₀ row = count - row
 
-row-count-requires : tie.Need-row-count-requires Inv-loop μ-loop
-row-count-requires c κs = search needs
-
 loop-holds : tie.Need-loop-holds Inv-loop μ-loop
 loop-holds c = search seeking
 
-fragment-at-requires : tie.Need-fragment-at-requires Inv-loop μ-loop
-fragment-at-requires c κs = search needs
-
 returns : tie.Need-returns Inv-loop μ-loop
 returns c = search (seeking, needs)
-
-add-row : tie.Need-add-row Inv-loop μ-loop
-add-row c = search needs
-
-loop-less : tie.Need-loop-less Inv-loop μ-loop
-loop-less c = search needs
 
 loop-again : tie.Need-loop-again Inv-loop μ-loop
 loop-again c = search (seeking, needs)
@@ -41,11 +29,11 @@ find-fragment-spec =
     (tie.spec
     Inv-loop
     μ-loop
-    row-count-requires
+    (λ c κs. search needs)
     loop-holds
-    fragment-at-requires
+    (λ c κs. search needs)
     returns
-    add-row
-    loop-less
+    (λ c. search needs)
+    (λ c. search needs)
     loop-again
     returns-2)

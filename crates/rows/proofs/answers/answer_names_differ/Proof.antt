@@ -3,14 +3,8 @@ use borrow.Author.Needs.{needs}
 use Rattle.rows.proofs.answers.answer_names_differ.Statement.{statement}
 use Rattle.rows.proofs.answers.answer_names_differ.Tie as tie
 
-answer-at-requires : tie.Need-answer-at-requires
-answer-at-requires c κs = search needs
-
-answer-parts-requires : tie.Need-answer-parts-requires
-answer-parts-requires c κs = search needs
-
 returns : tie.Need-returns
 returns c = rw (c .answer-parts .ensures, c .before .answer-at .ensures)
 
 pub answer-names-differ-spec : {M : Type 1} → statement M
-answer-names-differ-spec = tie.close (tie.spec answer-at-requires answer-parts-requires returns)
+answer-names-differ-spec = tie.close (tie.spec (λ c κs. search needs) (λ c κs. search needs) returns)

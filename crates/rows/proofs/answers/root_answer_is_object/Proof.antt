@@ -3,14 +3,8 @@ use borrow.Author.Needs.{needs}
 use Rattle.rows.proofs.answers.root_answer_is_object.Statement.{statement}
 use Rattle.rows.proofs.answers.root_answer_is_object.Tie as tie
 
-answer-at-requires : tie.Need-answer-at-requires
-answer-at-requires c κs = search needs
-
-is-object-requires : tie.Need-is-object-requires
-is-object-requires c κs = search needs
-
 returns : tie.Need-returns
 returns c = rw (c .is-object .ensures, c .before .answer-at .ensures)
 
 pub root-answer-is-object-spec : {M : Type 1} → statement M
-root-answer-is-object-spec = tie.close (tie.spec answer-at-requires is-object-requires returns)
+root-answer-is-object-spec = tie.close (tie.spec (λ c κs. search needs) (λ c κs. search needs) returns)

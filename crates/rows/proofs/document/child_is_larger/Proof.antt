@@ -3,14 +3,8 @@ use borrow.Author.Needs.{needs}
 use Rattle.rows.proofs.document.child_is_larger.Statement.{statement}
 use Rattle.rows.proofs.document.child_is_larger.Tie as tie
 
-owned-set-requires : tie.Need-owned-set-requires
-owned-set-requires c κs = search needs
-
-is-larger-than-requires : tie.Need-is-larger-than-requires
-is-larger-than-requires c κs = search needs
-
 returns : tie.Need-returns
 returns c = rw (c .is-larger-than .ensures, c .before .owned-set .ensures)
 
 pub child-is-larger-spec : {M : Type 1} → statement M
-child-is-larger-spec = tie.close (tie.spec owned-set-requires is-larger-than-requires returns)
+child-is-larger-spec = tie.close (tie.spec (λ c κs. search needs) (λ c κs. search needs) returns)

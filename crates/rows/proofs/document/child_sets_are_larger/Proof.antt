@@ -3,15 +3,9 @@ use borrow.Author.Needs.{needs}
 use Rattle.rows.proofs.document.child_sets_are_larger.Statement.{statement}
 use Rattle.rows.proofs.document.child_sets_are_larger.Tie as tie
 
-set-at-requires : tie.Need-set-at-requires
-set-at-requires c κs = search needs
-
-children-are-larger-requires : tie.Need-children-are-larger-requires
-children-are-larger-requires c κs = search needs
-
 returns : tie.Need-returns
 returns c = rw (c .children-are-larger .ensures, c .before .set-at .ensures)
 
 pub child-sets-are-larger-spec : {M : Type 1} → statement M
 child-sets-are-larger-spec =
-    tie.close (tie.spec set-at-requires children-are-larger-requires returns)
+    tie.close (tie.spec (λ c κs. search needs) (λ c κs. search needs) returns)

@@ -15,30 +15,12 @@ Inv-loop selections set first count i₀ i = (i ≤ count) × (all (λ k. childL
 abbrev μ-loop : tie.MeasureT-loop
 μ-loop selections set first count i₀ i = count - i
 
-cast-first : tie.Need-cast-first Inv-loop μ-loop
-cast-first c = search needs
-
 loop-holds : tie.Need-loop-holds Inv-loop μ-loop
 loop-holds c = (search needs, search every)
-
-cast-child-is-larger : tie.Need-cast-child-is-larger Inv-loop μ-loop
-cast-child-is-larger c = search needs
-
-add-child-is-larger : tie.Need-add-child-is-larger Inv-loop μ-loop
-add-child-is-larger c = search needs
-
-child-is-larger-requires : tie.Need-child-is-larger-requires Inv-loop μ-loop
-child-is-larger-requires c κs = search needs
 
 returns : tie.Need-returns Inv-loop μ-loop
 unfolding childrenLarger
 returns c = search (every, needs)
-
-add-i : tie.Need-add-i Inv-loop μ-loop
-add-i c = search needs
-
-loop-less : tie.Need-loop-less Inv-loop μ-loop
-loop-less c = search needs
 
 loop-again : tie.Need-loop-again Inv-loop μ-loop
 loop-again c = (search needs, search (every, needs))
@@ -53,13 +35,13 @@ children-are-larger-spec =
     (tie.spec
     Inv-loop
     μ-loop
-    cast-first
+    (λ c. search needs)
     loop-holds
-    cast-child-is-larger
-    add-child-is-larger
-    child-is-larger-requires
+    (λ c. search needs)
+    (λ c. search needs)
+    (λ c κs. search needs)
     returns
-    add-i
-    loop-less
+    (λ c. search needs)
+    (λ c. search needs)
     loop-again
     returns-2)

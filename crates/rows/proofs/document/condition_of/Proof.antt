@@ -13,11 +13,8 @@ returns-2 c = rw (c .if2 .taken)
 returns-3 : tie.Need-returns-3
 returns-3 c = rw (c .if3 .taken)
 
-sub-t3 : tie.Need-sub-t3
-sub-t3 c = search needs
-
 returns-4 : tie.Need-returns-4
 returns-4 c = simp (ne-eqb _ _ (c .before .before .if1 .left), ne-eqb _ _ (c .before .if2 .left), ne-eqb _ _ (c .if3 .left))
 
 pub condition-of-spec : {M : Type 1} → statement M
-condition-of-spec = tie.close (tie.spec returns returns-2 returns-3 sub-t3 returns-4)
+condition-of-spec = tie.close (tie.spec returns returns-2 returns-3 (λ c. search needs) returns-4)

@@ -3,14 +3,8 @@ use borrow.Author.Needs.{needs}
 use Rattle.rows.proofs.document.given_differ.Statement.{statement}
 use Rattle.rows.proofs.document.given_differ.Tie as tie
 
-what-is-selected-requires : tie.Need-what-is-selected-requires
-what-is-selected-requires c κs = search needs
-
-given-of-requires : tie.Need-given-of-requires
-given-of-requires c κs = search needs
-
 returns : tie.Need-returns
 returns c = rw (c .given-of .ensures, c .before .what-is-selected .ensures)
 
 pub given-differ-spec : {M : Type 1} → statement M
-given-differ-spec = tie.close (tie.spec what-is-selected-requires given-of-requires returns)
+given-differ-spec = tie.close (tie.spec (λ c κs. search needs) (λ c κs. search needs) returns)

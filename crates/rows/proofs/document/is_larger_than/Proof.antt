@@ -3,17 +3,8 @@ use borrow.Author.Needs.{needs}
 use Rattle.rows.proofs.document.is_larger_than.Statement.{statement}
 use Rattle.rows.proofs.document.is_larger_than.Tie as tie
 
-enum-told : tie.Need-enum-told
-enum-told c = search needs
-
-enum-known-owned : tie.Need-enum-known-owned
-enum-known-owned c = search needs
-
-returns : tie.Need-returns
-returns c = search needs
-
 returns-2 : tie.Need-returns-2
 returns-2 c = rw (c .before .owned .given .1)
 
 pub is-larger-than-spec : {M : Type 1} → statement M
-is-larger-than-spec = tie.close (tie.spec enum-told enum-known-owned returns returns-2)
+is-larger-than-spec = tie.close (tie.spec (λ c. search needs) (λ c. search needs) (λ c. search needs) returns-2)

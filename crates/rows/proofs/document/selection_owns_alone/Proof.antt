@@ -3,14 +3,8 @@ use borrow.Author.Needs.{needs}
 use Rattle.rows.proofs.document.selection_owns_alone.Statement.{statement}
 use Rattle.rows.proofs.document.selection_owns_alone.Tie as tie
 
-owned-set-requires : tie.Need-owned-set-requires
-owned-set-requires c κs = search needs
-
-is-alone-requires : tie.Need-is-alone-requires
-is-alone-requires c κs = search needs
-
 returns : tie.Need-returns
 returns c = rw (c .is-alone .ensures, c .before .owned-set .ensures)
 
 pub selection-owns-alone-spec : {M : Type 1} → statement M
-selection-owns-alone-spec = tie.close (tie.spec owned-set-requires is-alone-requires returns)
+selection-owns-alone-spec = tie.close (tie.spec (λ c κs. search needs) (λ c κs. search needs) returns)

@@ -5,18 +5,6 @@ use borrow.Author.Needs.{needs}
 use Rattle.rows.proofs.document.what_is_selected.Statement.{statement}
 use Rattle.rows.proofs.document.what_is_selected.Tie as tie
 
-cell-requires : tie.Need-cell-requires
-cell-requires c κs = search needs
-
-field-selection-requires : tie.Need-field-selection-requires
-field-selection-requires c κs = search needs
-
-spread-selection-requires : tie.Need-spread-selection-requires
-spread-selection-requires c κs = search needs
-
-inline-selection-requires : tie.Need-inline-selection-requires
-inline-selection-requires c κs = search needs
-
 returns : tie.Need-returns
 unfolding selectionOf
 returns c = rw (← (c .before .before .cell .ensures), c .before .match .keys1, c .field-selection .ensures)
@@ -37,10 +25,10 @@ pub what-is-selected-spec : {M : Type 1} → statement M
 what-is-selected-spec =
     tie.close
     (tie.spec
-    cell-requires
-    field-selection-requires
-    spread-selection-requires
-    inline-selection-requires
+    (λ c κs. search needs)
+    (λ c κs. search needs)
+    (λ c κs. search needs)
+    (λ c κs. search needs)
     returns
     returns-2
     returns-3

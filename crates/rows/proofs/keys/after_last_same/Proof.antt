@@ -19,20 +19,11 @@ abbrev μ-loop : tie.MeasureT-loop
 loop-holds : tie.Need-loop-holds Inv-loop μ-loop
 loop-holds c = (search needs, search needs, λ k l m. absurd (omega arith))
 
-sub-is-other-hashed : tie.Need-sub-is-other-hashed Inv-loop μ-loop
-sub-is-other-hashed c = search needs
-
 is-other-hashed-requires : tie.Need-is-other-hashed-requires Inv-loop μ-loop
 is-other-hashed-requires c κs = ((search needs, search needs), search needs)
 
 returns : tie.Need-returns Inv-loop μ-loop
 returns c = record { low = c .before .before .before .loop .inv .0; high = c .before .before .before .loop .inv .1; others = c .before .before .before .loop .inv .2; last = λ h. falsified (c .before .is-other-hashed .result) _ (c .before .is-other-hashed .ensures) (c .if1 .taken) }
-
-sub-j : tie.Need-sub-j Inv-loop μ-loop
-sub-j c = search needs
-
-loop-less : tie.Need-loop-less Inv-loop μ-loop
-loop-less c = search needs
 
 loop-again : tie.Need-loop-again Inv-loop μ-loop
 loop-again c = (search needs, search needs, others-more _ _ _ (c .before .before .before .loop .j) (c .before .before .before .loop .inv .2) (verified (c .before .is-other-hashed .result) _ (c .before .is-other-hashed .ensures) (c .if1 .left)))
@@ -47,10 +38,10 @@ after-last-same-spec =
     Inv-loop
     μ-loop
     loop-holds
-    sub-is-other-hashed
+    (λ c. search needs)
     is-other-hashed-requires
     returns
-    sub-j
-    loop-less
+    (λ c. search needs)
+    (λ c. search needs)
     loop-again
     returns-2)

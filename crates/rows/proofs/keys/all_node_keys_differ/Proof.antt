@@ -16,15 +16,6 @@ Inv-loop pool nodes rows since known row₀ row = (row ≤ rows) × (all (nodeKe
 abbrev μ-loop : tie.MeasureT-loop
 μ-loop pool nodes rows since known row₀ row = rows - row
 
-row-count-requires : tie.Need-row-count-requires Inv-loop μ-loop
-row-count-requires c κs = search needs
-
-slice-aggregate-note-children : tie.Need-slice-aggregate-note-children Inv-loop μ-loop
-slice-aggregate-note-children c = search needs
-
-slice-aggregate-note-children-2 : tie.Need-slice-aggregate-note-children-2 Inv-loop μ-loop
-slice-aggregate-note-children-2 c = search needs
-
 note-children-requires : tie.Need-note-children-requires Inv-loop μ-loop
 note-children-requires c κs = (hashed-none _ _, since-none _ _)
 
@@ -34,12 +25,6 @@ loop-holds c = (search needs, all-none _)
 slice-aggregate-are-distinct-by-note :
     tie.Need-slice-aggregate-are-distinct-by-note Inv-loop μ-loop
 slice-aggregate-are-distinct-by-note c = search needs
-
-node-at-requires : tie.Need-node-at-requires Inv-loop μ-loop
-node-at-requires c κs = search needs
-
-object-rows-requires : tie.Need-object-rows-requires Inv-loop μ-loop
-object-rows-requires c κs = search needs
 
 are-distinct-by-note-requires : tie.Need-are-distinct-by-note-requires Inv-loop μ-loop
 are-distinct-by-note-requires c κs = c .before .before .before .before .before .before .before .note-children .ensures
@@ -51,12 +36,6 @@ answer c = rw (c .are-distinct-by-note .ensures, c .before .object-rows .ensures
 
 returns : tie.Need-returns Inv-loop μ-loop
 returns c = rw (← (c .before .before .before .before .before .before .before .before .before .before .before .before .row-count .ensures)) (all-broken _ (c .before .before .before .before .before .before .loop .row) _ (c .before .are-distinct-by-note .result) (c .before .before .before .before .before .loop-test .taken) (answer (c .before)) (c .if1 .taken))
-
-add-row : tie.Need-add-row Inv-loop μ-loop
-add-row c = search needs
-
-loop-less : tie.Need-loop-less Inv-loop μ-loop
-loop-less c = search needs
 
 loop-again : tie.Need-loop-again Inv-loop μ-loop
 loop-again c = (search needs, all-more _ (c .before .before .before .before .before .before .loop .row) (c .before .are-distinct-by-note .result) (c .before .before .before .before .before .before .loop .inv .1) (answer (c .before)) (c .if1 .left))
@@ -70,17 +49,17 @@ all-node-keys-differ-spec =
     (tie.spec
     Inv-loop
     μ-loop
-    row-count-requires
-    slice-aggregate-note-children
-    slice-aggregate-note-children-2
+    (λ c κs. search needs)
+    (λ c. search needs)
+    (λ c. search needs)
     note-children-requires
     loop-holds
     slice-aggregate-are-distinct-by-note
-    node-at-requires
-    object-rows-requires
+    (λ c κs. search needs)
+    (λ c κs. search needs)
     are-distinct-by-note-requires
     returns
-    add-row
-    loop-less
+    (λ c. search needs)
+    (λ c. search needs)
     loop-again
     returns-2)

@@ -18,29 +18,14 @@ abbrev μ-loop : tie.MeasureT-loop
 loop-holds : tie.Need-loop-holds Inv-loop μ-loop
 loop-holds c = (search needs, refl)
 
-mul-hash : tie.Need-mul-hash Inv-loop μ-loop
-mul-hash c = search needs
-
-shared-slice-read-hash : tie.Need-shared-slice-read-hash Inv-loop μ-loop
-shared-slice-read-hash c = search needs
-
 cast-hash : tie.Need-cast-hash Inv-loop μ-loop
 cast-hash c = omega (arith, c .shared-slice-known .given (c .before .before .loop .i))
 
 add-hash : tie.Need-add-hash Inv-loop μ-loop
 add-hash c = omega (arith, c .shared-slice-known .given (c .before .before .loop .i))
 
-add-i : tie.Need-add-i Inv-loop μ-loop
-add-i c = search needs
-
-loop-less : tie.Need-loop-less Inv-loop μ-loop
-loop-less c = search needs
-
 loop-again : tie.Need-loop-again Inv-loop μ-loop
 loop-again c = (search needs, sym (hash-turn _ (c .before .before .loop .hash) (c .before .before .loop .i) (c .before .loop-test .taken)) ∙ c .before .before .loop .inv .1)
-
-cast-result : tie.Need-cast-result Inv-loop μ-loop
-cast-result c = search needs
 
 returns : tie.Need-returns Inv-loop μ-loop
 returns c = sym (hash-end _ (c .before .loop .hash) (c .before .loop .i) (c .loop-test .left)) ∙ c .before .loop .inv .1
@@ -52,12 +37,12 @@ hash-of-spec =
     Inv-loop
     μ-loop
     loop-holds
-    mul-hash
-    shared-slice-read-hash
+    (λ c. search needs)
+    (λ c. search needs)
     cast-hash
     add-hash
-    add-i
-    loop-less
+    (λ c. search needs)
+    (λ c. search needs)
     loop-again
-    cast-result
+    (λ c. search needs)
     returns)

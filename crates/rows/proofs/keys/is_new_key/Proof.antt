@@ -15,30 +15,12 @@ Inv-loop pool nodes first i from row j₀ j = (j ≤ i) × (all (λ k. otherKey 
 abbrev μ-loop : tie.MeasureT-loop
 μ-loop pool nodes first i from row j₀ j = i - j
 
-add-row : tie.Need-add-row Inv-loop μ-loop
-add-row c = search needs
-
 loop-holds : tie.Need-loop-holds Inv-loop μ-loop
 loop-holds c = (search needs, search every)
-
-cast-is-other-key : tie.Need-cast-is-other-key Inv-loop μ-loop
-cast-is-other-key c = search needs
-
-add-is-other-key : tie.Need-add-is-other-key Inv-loop μ-loop
-add-is-other-key c = search needs
-
-is-other-key-requires : tie.Need-is-other-key-requires Inv-loop μ-loop
-is-other-key-requires c κs = search needs
 
 returns : tie.Need-returns Inv-loop μ-loop
 unfolding keyNew
 returns c = search (every, needs)
-
-add-j : tie.Need-add-j Inv-loop μ-loop
-add-j c = search needs
-
-loop-less : tie.Need-loop-less Inv-loop μ-loop
-loop-less c = search needs
 
 loop-again : tie.Need-loop-again Inv-loop μ-loop
 loop-again c = (search needs, search (every, needs))
@@ -53,13 +35,13 @@ is-new-key-spec =
     (tie.spec
     Inv-loop
     μ-loop
-    add-row
+    (λ c. search needs)
     loop-holds
-    cast-is-other-key
-    add-is-other-key
-    is-other-key-requires
+    (λ c. search needs)
+    (λ c. search needs)
+    (λ c κs. search needs)
     returns
-    add-j
-    loop-less
+    (λ c. search needs)
+    (λ c. search needs)
     loop-again
     returns-2)

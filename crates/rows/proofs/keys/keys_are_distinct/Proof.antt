@@ -18,18 +18,9 @@ abbrev μ-loop : tie.MeasureT-loop
 loop-holds : tie.Need-loop-holds Inv-loop μ-loop
 loop-holds c = (search needs, search every)
 
-is-new-key-requires : tie.Need-is-new-key-requires Inv-loop μ-loop
-is-new-key-requires c κs = search needs
-
 returns : tie.Need-returns Inv-loop μ-loop
 unfolding keysDistinct
 returns c = search (every, needs)
-
-add-i : tie.Need-add-i Inv-loop μ-loop
-add-i c = search needs
-
-loop-less : tie.Need-loop-less Inv-loop μ-loop
-loop-less c = search needs
 
 loop-again : tie.Need-loop-again Inv-loop μ-loop
 loop-again c = (search needs, search (every, needs))
@@ -45,9 +36,9 @@ keys-are-distinct-spec =
     Inv-loop
     μ-loop
     loop-holds
-    is-new-key-requires
+    (λ c κs. search needs)
     returns
-    add-i
-    loop-less
+    (λ c. search needs)
+    (λ c. search needs)
     loop-again
     returns-2)

@@ -20,27 +20,6 @@ returns c = (omega arith, c .before .before .before .before .before .pre .1)
 loop-holds : tie.Need-loop-holds Inv-loop μ-loop
 loop-holds c = (omega arith, c .before .before .before .before .before .pre .0, c .before .before .before .before .before .pre .1)
 
-node-key-requires : tie.Need-node-key-requires Inv-loop μ-loop
-node-key-requires c κs = search needs
-
-text-of-requires : tie.Need-text-of-requires Inv-loop μ-loop
-text-of-requires c κs = search needs
-
-hash-of-requires : tie.Need-hash-of-requires Inv-loop μ-loop
-hash-of-requires c κs = search needs
-
-mul-hashes : tie.Need-mul-hashes Inv-loop μ-loop
-mul-hashes c = search needs
-
-slice-write-hashes : tie.Need-slice-write-hashes Inv-loop μ-loop
-slice-write-hashes c = search needs
-
-mul-from : tie.Need-mul-from Inv-loop μ-loop
-mul-from c = search needs
-
-slice-read-from : tie.Need-slice-read-from Inv-loop μ-loop
-slice-read-from c = search needs
-
 cast-from : tie.Need-cast-from Inv-loop μ-loop
 cast-from c = omega (arith, c .slice-known3 .given (c .before .before .before .before .before .loop .row))
 
@@ -50,36 +29,12 @@ after-last-same-requires c κs = (
   hashed-one _ _ _ _ _ (c .before .before .before .before .before .before .loop .inv .1) (rw (c .before .before .hash-of .ensures, c .before .before .before .text-of .ensures, c .before .before .before .before .node-key .ensures)) (omega arith),
 )
 
-cast-since : tie.Need-cast-since Inv-loop μ-loop
-cast-since c = search needs
-
-add-since : tie.Need-add-since Inv-loop μ-loop
-add-since c = search needs
-
-mul-since : tie.Need-mul-since Inv-loop μ-loop
-mul-since c = search needs
-
-slice-write-since : tie.Need-slice-write-since Inv-loop μ-loop
-slice-write-since c = search needs
-
-add-row : tie.Need-add-row Inv-loop μ-loop
-add-row c = search needs
-
-loop-less : tie.Need-loop-less Inv-loop μ-loop
-loop-less c = search needs
-
 loop-again : tie.Need-loop-again Inv-loop μ-loop
 loop-again c = (
   omega arith,
   hashed-one _ _ _ _ _ (c .before .before .before .before .before .before .before .loop .inv .1) (rw (c .before .before .before .hash-of .ensures, c .before .before .before .before .text-of .ensures, c .before .before .before .before .before .node-key .ensures)) (omega arith),
   since-one _ _ _ _ (c .before .before .before .before .before .before .before .loop .inv .2) _ (c .after-last-same .result) refl (c .after-last-same .ensures) (omega arith),
 )
-
-same-length : tie.Need-same-length Inv-loop μ-loop
-same-length c = search needs
-
-same-length-2 : tie.Need-same-length-2 Inv-loop μ-loop
-same-length-2 c = search needs
 
 returns-2 : tie.Need-returns-2 Inv-loop μ-loop
 returns-2 c = (omega arith, c .before .loop .inv .2)
@@ -92,22 +47,22 @@ note-keys-spec =
     μ-loop
     returns
     loop-holds
-    node-key-requires
-    text-of-requires
-    hash-of-requires
-    mul-hashes
-    slice-write-hashes
-    mul-from
-    slice-read-from
+    (λ c κs. search needs)
+    (λ c κs. search needs)
+    (λ c κs. search needs)
+    (λ c. search needs)
+    (λ c. search needs)
+    (λ c. search needs)
+    (λ c. search needs)
     cast-from
     after-last-same-requires
-    cast-since
-    add-since
-    mul-since
-    slice-write-since
-    add-row
-    loop-less
+    (λ c. search needs)
+    (λ c. search needs)
+    (λ c. search needs)
+    (λ c. search needs)
+    (λ c. search needs)
+    (λ c. search needs)
     loop-again
-    same-length
-    same-length-2
+    (λ c. search needs)
+    (λ c. search needs)
     returns-2)

@@ -14,12 +14,6 @@ mul-at c = omega (arith, cell-small (c .args .row) (c .args .width) (c .pre .0) 
 add-at : tie.Need-add-at
 add-at c = omega (arith, cell-small (c .args .row) (c .args .width) (c .pre .0) (c .pre .1))
 
-mul-result : tie.Need-mul-result
-mul-result c = search needs
-
-shared-slice-read-result : tie.Need-shared-slice-read-result
-shared-slice-read-result c = search needs
-
 returns : tie.Need-returns
 unfolding cell
 returns c = refl
@@ -30,4 +24,4 @@ returns-2 c = sym (List·getD-eq-default (c .before .args .t .now) 0 (c .if1 .le
 
 pub cell-spec : {M : Type 1} → statement M
 cell-spec =
-    tie.close (tie.spec mul-at add-at mul-result shared-slice-read-result returns returns-2)
+    tie.close (tie.spec mul-at add-at (λ c. search needs) (λ c. search needs) returns returns-2)

@@ -19,21 +19,12 @@ abbrev μ-loop : tie.MeasureT-loop
 loop-holds : tie.Need-loop-holds Inv-loop μ-loop
 loop-holds c = (search needs, all-none _, met-none _ _ _ _)
 
-slice-aggregate-is-new-by-marks : tie.Need-slice-aggregate-is-new-by-marks Inv-loop μ-loop
-slice-aggregate-is-new-by-marks c = search needs
-
 is-new-by-marks-requires : tie.Need-is-new-by-marks-requires Inv-loop μ-loop
 is-new-by-marks-requires c κs = (search needs, search needs)
 
 returns : tie.Need-returns Inv-loop μ-loop
 unfolding distinct
 returns c = all-broken _ (c .before .before .before .before .before .loop .i) _ (c .before .before .is-new-by-marks .result) (c .before .before .before .before .loop-test .taken) (c .before .before .is-new-by-marks .ensures .0) (c .if1 .taken)
-
-add-i : tie.Need-add-i Inv-loop μ-loop
-add-i c = search needs
-
-loop-less : tie.Need-loop-less Inv-loop μ-loop
-loop-less c = search needs
 
 loop-again : tie.Need-loop-again Inv-loop μ-loop
 loop-again c = (search needs, all-more _ (c .before .before .before .before .before .loop .i) (c .before .before .is-new-by-marks .result) (c .before .before .before .before .before .loop .inv .1) (c .before .before .is-new-by-marks .ensures .0) (c .if1 .left), (c .before .before .is-new-by-marks .ensures .1))
@@ -49,10 +40,10 @@ is-distinct-spec =
     Inv-loop
     μ-loop
     loop-holds
-    slice-aggregate-is-new-by-marks
+    (λ c. search needs)
     is-new-by-marks-requires
     returns
-    add-i
-    loop-less
+    (λ c. search needs)
+    (λ c. search needs)
     loop-again
     returns-2)

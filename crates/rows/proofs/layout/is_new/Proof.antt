@@ -14,30 +14,12 @@ Inv-loop t width column first i from row j₀ j = (j ≤ i) × (all (λ k. other
 abbrev μ-loop : tie.MeasureT-loop
 μ-loop t width column first i from row j₀ j = i - j
 
-add-row : tie.Need-add-row Inv-loop μ-loop
-add-row c = search needs
-
 loop-holds : tie.Need-loop-holds Inv-loop μ-loop
 loop-holds c = (search needs, search every)
-
-cast-is-other : tie.Need-cast-is-other Inv-loop μ-loop
-cast-is-other c = search needs
-
-add-is-other : tie.Need-add-is-other Inv-loop μ-loop
-add-is-other c = search needs
-
-is-other-requires : tie.Need-is-other-requires Inv-loop μ-loop
-is-other-requires c κs = search needs
 
 returns : tie.Need-returns Inv-loop μ-loop
 unfolding isNew
 returns c = search (every, needs)
-
-add-j : tie.Need-add-j Inv-loop μ-loop
-add-j c = search needs
-
-loop-less : tie.Need-loop-less Inv-loop μ-loop
-loop-less c = search needs
 
 loop-again : tie.Need-loop-again Inv-loop μ-loop
 loop-again c = (search needs, search (every, needs))
@@ -52,13 +34,13 @@ is-new-spec =
     (tie.spec
     Inv-loop
     μ-loop
-    add-row
+    (λ c. search needs)
     loop-holds
-    cast-is-other
-    add-is-other
-    is-other-requires
+    (λ c. search needs)
+    (λ c. search needs)
+    (λ c κs. search needs)
     returns
-    add-j
-    loop-less
+    (λ c. search needs)
+    (λ c. search needs)
     loop-again
     returns-2)

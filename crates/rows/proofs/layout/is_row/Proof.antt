@@ -3,11 +3,8 @@ use borrow.Author.Needs.{needs}
 use Rattle.rows.proofs.layout.is_row.Statement.{statement}
 use Rattle.rows.proofs.layout.is_row.Tie as tie
 
-row-count-requires : tie.Need-row-count-requires
-row-count-requires c κs = search needs
-
 returns : tie.Need-returns
 returns c = rw (c .row-count .ensures)
 
 pub is-row-spec : {M : Type 1} → statement M
-is-row-spec = tie.close (tie.spec row-count-requires returns)
+is-row-spec = tie.close (tie.spec (λ c κs. search needs) returns)

@@ -5,12 +5,6 @@ use native.Mathlib.Omega.{arith}
 use Rattle.rows.proofs.layout.row_count.Statement.{statement}
 use Rattle.rows.proofs.layout.row_count.Tie as tie
 
-div-n : tie.Need-div-n
-div-n c = search needs
-
-cast-result : tie.Need-cast-result
-cast-result c = search needs
-
 returns : tie.Need-returns
 unfolding rowsOf
 returns c = omega arith
@@ -20,4 +14,4 @@ unfolding rowsOf
 returns-2 c = omega arith
 
 pub row-count-spec : {M : Type 1} → statement M
-row-count-spec = tie.close (tie.spec div-n cast-result returns returns-2)
+row-count-spec = tie.close (tie.spec (λ c. search needs) (λ c. search needs) returns returns-2)

@@ -3,14 +3,8 @@ use borrow.Author.Needs.{needs}
 use Rattle.rows.proofs.schema.arguments_differ.Statement.{statement}
 use Rattle.rows.proofs.schema.arguments_differ.Tie as tie
 
-field-at-requires : tie.Need-field-at-requires
-field-at-requires c κs = search needs
-
-is-distinct-requires : tie.Need-is-distinct-requires
-is-distinct-requires c κs = search needs
-
 returns : tie.Need-returns
 returns c = rw (c .is-distinct .ensures, c .before .before .field-at .ensures)
 
 pub arguments-differ-spec : {M : Type 1} → statement M
-arguments-differ-spec = tie.close (tie.spec field-at-requires is-distinct-requires returns)
+arguments-differ-spec = tie.close (tie.spec (λ c κs. search needs) (λ c κs. search needs) returns)

@@ -3,14 +3,8 @@ use borrow.Author.Needs.{needs}
 use Rattle.rows.proofs.schema.member_row.Statement.{statement}
 use Rattle.rows.proofs.schema.member_row.Tie as tie
 
-member-at-requires : tie.Need-member-at-requires
-member-at-requires c κs = search needs
-
-is-name-row-requires : tie.Need-is-name-row-requires
-is-name-row-requires c κs = search needs
-
 returns : tie.Need-returns
 returns c = rw (c .is-name-row .ensures, c .before .member-at .ensures)
 
 pub member-row-spec : {M : Type 1} → statement M
-member-row-spec = tie.close (tie.spec member-at-requires is-name-row-requires returns)
+member-row-spec = tie.close (tie.spec (λ c κs. search needs) (λ c κs. search needs) returns)

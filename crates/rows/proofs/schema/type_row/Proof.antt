@@ -3,14 +3,8 @@ use borrow.Author.Needs.{needs}
 use Rattle.rows.proofs.schema.type_row.Statement.{statement}
 use Rattle.rows.proofs.schema.type_row.Tie as tie
 
-type-at-requires : tie.Need-type-at-requires
-type-at-requires c κs = search needs
-
-type-is-lawful-requires : tie.Need-type-is-lawful-requires
-type-is-lawful-requires c κs = search needs
-
 returns : tie.Need-returns
 returns c = rw (c .type-is-lawful .ensures, c .before .type-at .ensures)
 
 pub type-row-spec : {M : Type 1} → statement M
-type-row-spec = tie.close (tie.spec type-at-requires type-is-lawful-requires returns)
+type-row-spec = tie.close (tie.spec (λ c κs. search needs) (λ c κs. search needs) returns)

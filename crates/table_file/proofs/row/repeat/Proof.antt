@@ -13,35 +13,8 @@ Inv-loop words₀ sizes₀ number start count times done₀ words sizes done = W
 abbrev μ-loop : tie.MeasureT-loop
 μ-loop words₀ sizes₀ number start count times done₀ words sizes done = times - done
 
-mul-sizes : tie.Need-mul-sizes Inv-loop μ-loop
-mul-sizes c = search needs
-
-element-write-sizes : tie.Need-element-write-sizes Inv-loop μ-loop
-element-write-sizes c = search needs
-
 returns : tie.Need-returns Inv-loop μ-loop
 returns c = table-set _ _ _ (c .before .pre .3) (omega arith) (omega arith)
-
-loop-holds : tie.Need-loop-holds Inv-loop μ-loop
-loop-holds c = search needs
-
-once-more-requires : tie.Need-once-more-requires Inv-loop μ-loop
-once-more-requires c κs = search needs
-
-returns-2 : tie.Need-returns-2 Inv-loop μ-loop
-returns-2 c = search needs
-
-add-done : tie.Need-add-done Inv-loop μ-loop
-add-done c = search needs
-
-loop-less : tie.Need-loop-less Inv-loop μ-loop
-loop-less c = search needs
-
-loop-again : tie.Need-loop-again Inv-loop μ-loop
-loop-again c = search needs
-
-returns-3 : tie.Need-returns-3 Inv-loop μ-loop
-returns-3 c = search needs
 
 pub repeat-spec : {M : Type 1} → statement M
 repeat-spec =
@@ -49,13 +22,13 @@ repeat-spec =
     (tie.spec
     Inv-loop
     μ-loop
-    mul-sizes
-    element-write-sizes
+    (λ c. search needs)
+    (λ c. search needs)
     returns
-    loop-holds
-    once-more-requires
-    returns-2
-    add-done
-    loop-less
-    loop-again
-    returns-3)
+    (λ c. search needs)
+    (λ c κs. search needs)
+    (λ c. search needs)
+    (λ c. search needs)
+    (λ c. search needs)
+    (λ c. search needs)
+    (λ c. search needs))

@@ -4,11 +4,8 @@ use borrow.Author.Needs.{needs}
 use Rattle.table_file.proofs.store.fill_pool.Statement.{statement}
 use Rattle.table_file.proofs.store.fill_pool.Tie as tie
 
-element-write-sizes : tie.Need-element-write-sizes
-element-write-sizes c = search needs
-
 returns : tie.Need-returns
 returns c = pool-set _ _ (c .pre .1) (c .pre .0)
 
 pub fill-pool-spec : {M : Type 1} → statement M
-fill-pool-spec = tie.close (tie.spec element-write-sizes returns)
+fill-pool-spec = tie.close (tie.spec (λ c. search needs) returns)

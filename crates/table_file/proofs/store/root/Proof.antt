@@ -7,12 +7,6 @@ use borrow.Author.Needs.{needs}
 use Rattle.table_file.proofs.store.root.Statement.{statement}
 use Rattle.table_file.proofs.store.root.Tie as tie
 
-table-requires : tie.Need-table-requires
-table-requires c κs = search needs
-
-shared-slice-read-result : tie.Need-shared-slice-read-result
-shared-slice-read-result c = search needs
-
 returns : tie.Need-returns
 unfolding rootOf
 returns c = cc
@@ -22,4 +16,4 @@ unfolding rootOf
 returns-2 c = rw (← (c .before .table .ensures)) (sym (List·getD-eq-default (c .before .table .result .now) 0 {n = 0} (omega arith)))
 
 pub root-spec : {M : Type 1} → statement M
-root-spec = tie.close (tie.spec table-requires shared-slice-read-result returns returns-2)
+root-spec = tie.close (tie.spec (λ c κs. search needs) (λ c. search needs) returns returns-2)

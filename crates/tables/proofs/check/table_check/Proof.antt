@@ -5,9 +5,6 @@ use borrow.Author.Needs.{needs}
 use Rattle.tables.proofs.check.table_check.Statement.{statement}
 use Rattle.tables.proofs.check.table_check.Tie as tie
 
-rows-are-lawful-requires : tie.Need-rows-are-lawful-requires
-rows-are-lawful-requires c κs = search needs
-
 returns : tie.Need-returns
 returns c = code-rows _ (c .before .rows-are-lawful .result) (c .before .rows-are-lawful .ensures) (c .if1 .taken)
 
@@ -23,4 +20,4 @@ returns-3 c = code-lawful _ (c .before .before .before .rows-are-lawful .result)
 pub table-check-spec : {M : Type 1} → statement M
 table-check-spec =
     tie.close
-    (tie.spec rows-are-lawful-requires returns defaults-are-closed-requires returns-2 returns-3)
+    (tie.spec (λ c κs. search needs) returns defaults-are-closed-requires returns-2 returns-3)

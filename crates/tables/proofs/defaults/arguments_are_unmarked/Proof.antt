@@ -15,23 +15,11 @@ Inv-loop arguments marks rows row₀ row = (row ≤ rows) × (all (argumentUnmar
 abbrev μ-loop : tie.MeasureT-loop
 μ-loop arguments marks rows row₀ row = rows - row
 
-row-count-requires : tie.Need-row-count-requires Inv-loop μ-loop
-row-count-requires c κs = search needs
-
 loop-holds : tie.Need-loop-holds Inv-loop μ-loop
 loop-holds c = (search needs, all-none _)
 
-argument-is-unmarked-requires : tie.Need-argument-is-unmarked-requires Inv-loop μ-loop
-argument-is-unmarked-requires c κs = search needs
-
 returns : tie.Need-returns Inv-loop μ-loop
 returns c = rw (← (c .before .before .before .before .row-count .ensures)) (all-broken _ (c .before .before .before .loop .row) _ (c .before .argument-is-unmarked .result) (c .before .before .loop-test .taken) (c .before .argument-is-unmarked .ensures) (c .if1 .taken))
-
-add-row : tie.Need-add-row Inv-loop μ-loop
-add-row c = search needs
-
-loop-less : tie.Need-loop-less Inv-loop μ-loop
-loop-less c = search needs
 
 loop-again : tie.Need-loop-again Inv-loop μ-loop
 loop-again c = (search needs, all-more _ (c .before .before .before .loop .row) (c .before .argument-is-unmarked .result) (c .before .before .before .loop .inv .1) (c .before .argument-is-unmarked .ensures) (c .if1 .left))
@@ -45,11 +33,11 @@ arguments-are-unmarked-spec =
     (tie.spec
     Inv-loop
     μ-loop
-    row-count-requires
+    (λ c κs. search needs)
     loop-holds
-    argument-is-unmarked-requires
+    (λ c κs. search needs)
     returns
-    add-row
-    loop-less
+    (λ c. search needs)
+    (λ c. search needs)
     loop-again
     returns-2)

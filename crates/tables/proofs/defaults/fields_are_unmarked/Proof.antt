@@ -15,23 +15,11 @@ Inv-loop fields marks rows row₀ row = (row ≤ rows) × (all (fieldUnmarked fi
 abbrev μ-loop : tie.MeasureT-loop
 μ-loop fields marks rows row₀ row = rows - row
 
-row-count-requires : tie.Need-row-count-requires Inv-loop μ-loop
-row-count-requires c κs = search needs
-
 loop-holds : tie.Need-loop-holds Inv-loop μ-loop
 loop-holds c = (search needs, all-none _)
 
-field-is-unmarked-requires : tie.Need-field-is-unmarked-requires Inv-loop μ-loop
-field-is-unmarked-requires c κs = search needs
-
 returns : tie.Need-returns Inv-loop μ-loop
 returns c = rw (← (c .before .before .before .before .row-count .ensures)) (all-broken _ (c .before .before .before .loop .row) _ (c .before .field-is-unmarked .result) (c .before .before .loop-test .taken) (c .before .field-is-unmarked .ensures) (c .if1 .taken))
-
-add-row : tie.Need-add-row Inv-loop μ-loop
-add-row c = search needs
-
-loop-less : tie.Need-loop-less Inv-loop μ-loop
-loop-less c = search needs
 
 loop-again : tie.Need-loop-again Inv-loop μ-loop
 loop-again c = (search needs, all-more _ (c .before .before .before .loop .row) (c .before .field-is-unmarked .result) (c .before .before .before .loop .inv .1) (c .before .field-is-unmarked .ensures) (c .if1 .left))
@@ -45,11 +33,11 @@ fields-are-unmarked-spec =
     (tie.spec
     Inv-loop
     μ-loop
-    row-count-requires
+    (λ c κs. search needs)
     loop-holds
-    field-is-unmarked-requires
+    (λ c κs. search needs)
     returns
-    add-row
-    loop-less
+    (λ c. search needs)
+    (λ c. search needs)
     loop-again
     returns-2)

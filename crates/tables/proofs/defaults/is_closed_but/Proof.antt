@@ -3,111 +3,39 @@ use borrow.Author.Needs.{needs}
 use Rattle.tables.proofs.defaults.is_closed_but.Statement.{statement}
 use Rattle.tables.proofs.defaults.is_closed_but.Tie as tie
 
-enum-told : tie.Need-enum-told
-enum-told c = search needs
-
-enum-told-2 : tie.Need-enum-told-2
-enum-told-2 c = search needs
-
-enum-told-3 : tie.Need-enum-told-3
-enum-told-3 c = search needs
-
-enum-told-4 : tie.Need-enum-told-4
-enum-told-4 c = search needs
-
-enum-told-5 : tie.Need-enum-told-5
-enum-told-5 c = search needs
-
-enum-told-6 : tie.Need-enum-told-6
-enum-told-6 c = search needs
-
-enum-told-7 : tie.Need-enum-told-7
-enum-told-7 c = search needs
-
-enum-known-literal : tie.Need-enum-known-literal
-enum-known-literal c = search needs
-
-parts-are-unmarked-requires : tie.Need-parts-are-unmarked-requires
-parts-are-unmarked-requires c κs = search needs
-
-enum-known-literal-2 : tie.Need-enum-known-literal-2
-enum-known-literal-2 c = search needs
-
-parts-are-unmarked-requires-2 : tie.Need-parts-are-unmarked-requires-2
-parts-are-unmarked-requires-2 c κs = search needs
-
-enum-told-8 : tie.Need-enum-told-8
-enum-told-8 c = search needs
-
-enum-told-9 : tie.Need-enum-told-9
-enum-told-9 c = search needs
-
-enum-told-10 : tie.Need-enum-told-10
-enum-told-10 c = search needs
-
-returns : tie.Need-returns
-returns c = search needs
-
-returns-2 : tie.Need-returns-2
-returns-2 c = search needs
-
-returns-3 : tie.Need-returns-3
-returns-3 c = search needs
-
-returns-4 : tie.Need-returns-4
-returns-4 c = search needs
-
-returns-5 : tie.Need-returns-5
-returns-5 c = search needs
-
-returns-6 : tie.Need-returns-6
-returns-6 c = search needs
-
-returns-7 : tie.Need-returns-7
-returns-7 c = search needs
-
 returns-8 : tie.Need-returns-8
 returns-8 c = rw (c .before .before .literal .given .1) (c .parts-are-unmarked .ensures)
 
 returns-9 : tie.Need-returns-9
 returns-9 c = rw (c .before .before .literal2 .given .1) (c .parts-are-unmarked2 .ensures)
 
-returns-10 : tie.Need-returns-10
-returns-10 c = search needs
-
-returns-11 : tie.Need-returns-11
-returns-11 c = search needs
-
-returns-12 : tie.Need-returns-12
-returns-12 c = search needs
-
 pub is-closed-but-spec : {M : Type 1} → statement M
 is-closed-but-spec =
     tie.close
     (tie.spec
-    enum-told
-    enum-told-2
-    enum-told-3
-    enum-told-4
-    enum-told-5
-    enum-told-6
-    enum-told-7
-    enum-known-literal
-    parts-are-unmarked-requires
-    enum-known-literal-2
-    parts-are-unmarked-requires-2
-    enum-told-8
-    enum-told-9
-    enum-told-10
-    returns
-    returns-2
-    returns-3
-    returns-4
-    returns-5
-    returns-6
-    returns-7
+    (λ c. search needs)
+    (λ c. search needs)
+    (λ c. search needs)
+    (λ c. search needs)
+    (λ c. search needs)
+    (λ c. search needs)
+    (λ c. search needs)
+    (λ c. search needs)
+    (λ c κs. search needs)
+    (λ c. search needs)
+    (λ c κs. search needs)
+    (λ c. search needs)
+    (λ c. search needs)
+    (λ c. search needs)
+    (λ c. search needs)
+    (λ c. search needs)
+    (λ c. search needs)
+    (λ c. search needs)
+    (λ c. search needs)
+    (λ c. search needs)
+    (λ c. search needs)
     returns-8
     returns-9
-    returns-10
-    returns-11
-    returns-12)
+    (λ c. search needs)
+    (λ c. search needs)
+    (λ c. search needs))

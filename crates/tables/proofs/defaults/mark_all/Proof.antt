@@ -15,26 +15,11 @@ Inv-loop pool names literals marks₀ row₀ marks row = (row ≤ rowsOf literal
 abbrev μ-loop : tie.MeasureT-loop
 μ-loop pool names literals marks₀ row₀ marks row = row
 
-row-count-requires : tie.Need-row-count-requires Inv-loop μ-loop
-row-count-requires c κs = search needs
-
 loop-holds : tie.Need-loop-holds Inv-loop μ-loop
 loop-holds c = (search needs, rw (c .row-count .ensures) (mark-none (c .before .before .before .before .before .args .pool .now) (c .before .before .before .before .before .args .names .now) (c .before .before .before .before .before .args .literals .now) (c .before .before .before .before .before .pre .1 .1) _ (c .before .before .before .before .before .pre .0)))
 
-sub-row : tie.Need-sub-row Inv-loop μ-loop
-sub-row c = search needs
-
-mark-row-requires : tie.Need-mark-row-requires Inv-loop μ-loop
-mark-row-requires c κs = search needs
-
-loop-less : tie.Need-loop-less Inv-loop μ-loop
-loop-less c = search needs
-
 loop-again : tie.Need-loop-again Inv-loop μ-loop
 loop-again c = (search needs, mark-turn (c .before .before .before .before .before .before .before .before .before .before .before .args .pool .now) (c .before .before .before .before .before .before .before .before .before .before .before .args .names .now) (c .before .before .before .before .before .before .before .before .before .before .before .args .literals .now) (c .before .before .before .before .before .before .before .before .before .before .before .pre .1 .1) _ _ (c .before .before .before .before .before .loop .row) (omega arith) (c .before .before .before .before .before .loop .inv .0) (c .before .before .before .before .before .before .before .before .before .before .before .pre .1 .0) (c .before .before .before .before .before .loop .inv .1) (c .before .before .mark-row .ensures))
-
-same-length : tie.Need-same-length Inv-loop μ-loop
-same-length c = search needs
 
 returns : tie.Need-returns Inv-loop μ-loop
 returns c = mark-end _ _ (c .before .loop .row) (c .loop-test .left) (c .before .loop .inv .1)
@@ -45,11 +30,11 @@ mark-all-spec =
     (tie.spec
     Inv-loop
     μ-loop
-    row-count-requires
+    (λ c κs. search needs)
     loop-holds
-    sub-row
-    mark-row-requires
-    loop-less
+    (λ c. search needs)
+    (λ c κs. search needs)
+    (λ c. search needs)
     loop-again
-    same-length
+    (λ c. search needs)
     returns)

@@ -15,29 +15,11 @@ Inv-loop marks first count i₀ i = (i ≤ count) × (all (λ k. unmarked marks 
 abbrev μ-loop : tie.MeasureT-loop
 μ-loop marks first count i₀ i = count - i
 
-cast-first : tie.Need-cast-first Inv-loop μ-loop
-cast-first c = search needs
-
 loop-holds : tie.Need-loop-holds Inv-loop μ-loop
 loop-holds c = (search needs, search every)
 
-cast-is-unmarked : tie.Need-cast-is-unmarked Inv-loop μ-loop
-cast-is-unmarked c = search needs
-
-add-is-unmarked : tie.Need-add-is-unmarked Inv-loop μ-loop
-add-is-unmarked c = search needs
-
-is-unmarked-requires : tie.Need-is-unmarked-requires Inv-loop μ-loop
-is-unmarked-requires c κs = search needs
-
 returns : tie.Need-returns Inv-loop μ-loop
 returns c = search (every, needs)
-
-add-i : tie.Need-add-i Inv-loop μ-loop
-add-i c = search needs
-
-loop-less : tie.Need-loop-less Inv-loop μ-loop
-loop-less c = search needs
 
 loop-again : tie.Need-loop-again Inv-loop μ-loop
 loop-again c = (search needs, search (every, needs))
@@ -51,13 +33,13 @@ parts-are-unmarked-spec =
     (tie.spec
     Inv-loop
     μ-loop
-    cast-first
+    (λ c. search needs)
     loop-holds
-    cast-is-unmarked
-    add-is-unmarked
-    is-unmarked-requires
+    (λ c. search needs)
+    (λ c. search needs)
+    (λ c κs. search needs)
     returns
-    add-i
-    loop-less
+    (λ c. search needs)
+    (λ c. search needs)
     loop-again
     returns-2)

@@ -8,36 +8,6 @@ use borrow.Author.Needs.{needs}
 use Rattle.tables.proofs.rules.nth_value_rule.Statement.{statement}
 use Rattle.tables.proofs.rules.nth_value_rule.Tie as tie
 
-returns : tie.Need-returns
-returns c = search needs
-
-returns-2 : tie.Need-returns-2
-returns-2 c = search needs
-
-returns-3 : tie.Need-returns-3
-returns-3 c = search needs
-
-returns-4 : tie.Need-returns-4
-returns-4 c = search needs
-
-returns-5 : tie.Need-returns-5
-returns-5 c = search needs
-
-returns-6 : tie.Need-returns-6
-returns-6 c = search needs
-
-returns-7 : tie.Need-returns-7
-returns-7 c = search needs
-
-returns-8 : tie.Need-returns-8
-returns-8 c = search needs
-
-returns-9 : tie.Need-returns-9
-returns-9 c = search needs
-
-returns-10 : tie.Need-returns-10
-returns-10 c = search needs
-
 returns-11 : tie.Need-returns-11
 returns-11 c = sym (List·getD-eq-default valueRules RootAnswer (past 9 (c .before .args .k) (past 8 (c .before .args .k) (past 7 (c .before .args .k) (past 6 (c .before .args .k) (past 5 (c .before .args .k) (past 4 (c .before .args .k) (past 3 (c .before .args .k) (past 2 (c .before .args .k) (past 1 (c .before .args .k) (past 0 (c .before .args .k) (search needs) (c .match .rest .0 .0 .0 .0 .0 .0 .0 .0 .0 .1)) (c .match .rest .0 .0 .0 .0 .0 .0 .0 .0 .1)) (c .match .rest .0 .0 .0 .0 .0 .0 .0 .1)) (c .match .rest .0 .0 .0 .0 .0 .0 .1)) (c .match .rest .0 .0 .0 .0 .0 .1)) (c .match .rest .0 .0 .0 .0 .1)) (c .match .rest .0 .0 .0 .1)) (c .match .rest .0 .0 .1)) (c .match .rest .0 .1)) (c .match .rest .1)))
 
@@ -45,14 +15,14 @@ pub nth-value-rule-spec : {M : Type 1} → statement M
 nth-value-rule-spec =
     tie.close
     (tie.spec
-    returns
-    returns-2
-    returns-3
-    returns-4
-    returns-5
-    returns-6
-    returns-7
-    returns-8
-    returns-9
-    returns-10
+    (λ c. search needs)
+    (λ c. search needs)
+    (λ c. search needs)
+    (λ c. search needs)
+    (λ c. search needs)
+    (λ c. search needs)
+    (λ c. search needs)
+    (λ c. search needs)
+    (λ c. search needs)
+    (λ c. search needs)
     returns-11)

@@ -19,18 +19,9 @@ abbrev μ-loop : tie.MeasureT-loop
 loop-holds : tie.Need-loop-holds Inv-loop μ-loop
 loop-holds c = (search needs, all-none _)
 
-rule-number-holds-requires : tie.Need-rule-number-holds-requires Inv-loop μ-loop
-rule-number-holds-requires c κs = search needs
-
 returns : tie.Need-returns Inv-loop μ-loop
 unfolding rowsLawful
 returns c = (all-broken _ (c .before .before .before .loop .k) _ (c .before .rule-number-holds .result) (c .before .before .loop-test .taken) (c .before .rule-number-holds .ensures) (c .if1 .taken))
-
-add-k : tie.Need-add-k Inv-loop μ-loop
-add-k c = search needs
-
-loop-less : tie.Need-loop-less Inv-loop μ-loop
-loop-less c = search needs
 
 loop-again : tie.Need-loop-again Inv-loop μ-loop
 loop-again c = (search needs, all-more _ (c .before .before .before .loop .k) (c .before .rule-number-holds .result) (c .before .before .before .loop .inv .1) (c .before .rule-number-holds .ensures) (c .if1 .left))
@@ -46,9 +37,9 @@ rows-are-lawful-spec =
     Inv-loop
     μ-loop
     loop-holds
-    rule-number-holds-requires
+    (λ c κs. search needs)
     returns
-    add-k
-    loop-less
+    (λ c. search needs)
+    (λ c. search needs)
     loop-again
     returns-2)

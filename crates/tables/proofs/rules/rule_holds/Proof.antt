@@ -16,24 +16,12 @@ Inv-loop rule pool names type-refs types members fields arguments sets selection
 abbrev μ-loop : tie.MeasureT-loop
 μ-loop rule pool names type-refs types members fields arguments sets selections given fragments nodes literals variables answers root rows row₀ row = rows - row
 
-rule-rows-requires : tie.Need-rule-rows-requires Inv-loop μ-loop
-rule-rows-requires c κs = search needs
-
 loop-holds : tie.Need-loop-holds Inv-loop μ-loop
 loop-holds c = (search needs, all-none _)
-
-rule-holds-at-requires : tie.Need-rule-holds-at-requires Inv-loop μ-loop
-rule-holds-at-requires c κs = search needs
 
 returns : tie.Need-returns Inv-loop μ-loop
 unfolding obeyed
 returns c = rw (← (c .before .before .before .before .rule-rows .ensures)) (all-broken _ (c .before .before .before .loop .row) _ (c .before .rule-holds-at .result) (c .before .before .loop-test .taken) (c .before .rule-holds-at .ensures) (c .if1 .taken))
-
-add-row : tie.Need-add-row Inv-loop μ-loop
-add-row c = search needs
-
-loop-less : tie.Need-loop-less Inv-loop μ-loop
-loop-less c = search needs
 
 loop-again : tie.Need-loop-again Inv-loop μ-loop
 loop-again c = (search needs, all-more _ (c .before .before .before .loop .row) (c .before .rule-holds-at .result) (c .before .before .before .loop .inv .1) (c .before .rule-holds-at .ensures) (c .if1 .left))
@@ -48,11 +36,11 @@ rule-holds-spec =
     (tie.spec
     Inv-loop
     μ-loop
-    rule-rows-requires
+    (λ c κs. search needs)
     loop-holds
-    rule-holds-at-requires
+    (λ c κs. search needs)
     returns
-    add-row
-    loop-less
+    (λ c. search needs)
+    (λ c. search needs)
     loop-again
     returns-2)

@@ -4,18 +4,9 @@ use Rattle.tables.specs.Rules.{ruleAt, obeyed}
 use Rattle.tables.proofs.rules.rule_number_holds.Statement.{statement}
 use Rattle.tables.proofs.rules.rule_number_holds.Tie as tie
 
-all-node-keys-differ-requires : tie.Need-all-node-keys-differ-requires
-all-node-keys-differ-requires c κs = search needs
-
 returns : tie.Need-returns
 unfolding ruleAt obeyed
 returns c = rw (c .before .if1 .taken) (c .all-node-keys-differ .ensures)
-
-rule-at-requires : tie.Need-rule-at-requires
-rule-at-requires c κs = search needs
-
-rule-holds-requires : tie.Need-rule-holds-requires
-rule-holds-requires c κs = search needs
 
 returns-2 : tie.Need-returns-2
 returns-2 c = rw (c .rule-holds .ensures, c .before .rule-at .ensures)
@@ -24,8 +15,8 @@ pub rule-number-holds-spec : {M : Type 1} → statement M
 rule-number-holds-spec =
     tie.close
     (tie.spec
-    all-node-keys-differ-requires
+    (λ c κs. search needs)
     returns
-    rule-at-requires
-    rule-holds-requires
+    (λ c κs. search needs)
+    (λ c κs. search needs)
     returns-2)

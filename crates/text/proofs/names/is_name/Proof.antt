@@ -18,32 +18,14 @@ abbrev μ-loop : tie.MeasureT-loop
 returns : tie.Need-returns Inv-loop μ-loop
 returns c = search name-empty
 
-shared-slice-read-is-name-start : tie.Need-shared-slice-read-is-name-start Inv-loop μ-loop
-shared-slice-read-is-name-start c = search needs
-
-is-name-start-requires : tie.Need-is-name-start-requires Inv-loop μ-loop
-is-name-start-requires c κs = search needs
-
 returns-2 : tie.Need-returns-2 Inv-loop μ-loop
 returns-2 c = search name-refused
 
 loop-holds : tie.Need-loop-holds Inv-loop μ-loop
 loop-holds c = search name-begun
 
-shared-slice-read-is-name-continue : tie.Need-shared-slice-read-is-name-continue Inv-loop μ-loop
-shared-slice-read-is-name-continue c = search needs
-
-is-name-continue-requires : tie.Need-is-name-continue-requires Inv-loop μ-loop
-is-name-continue-requires c κs = search needs
-
 returns-3 : tie.Need-returns-3 Inv-loop μ-loop
 returns-3 c = search name-stopped
-
-add-i : tie.Need-add-i Inv-loop μ-loop
-add-i c = search needs
-
-loop-less : tie.Need-loop-less Inv-loop μ-loop
-loop-less c = search needs
 
 loop-again : tie.Need-loop-again Inv-loop μ-loop
 loop-again c = search name-continued
@@ -58,14 +40,14 @@ is-name-spec =
     Inv-loop
     μ-loop
     returns
-    shared-slice-read-is-name-start
-    is-name-start-requires
+    (λ c. search needs)
+    (λ c κs. search needs)
     returns-2
     loop-holds
-    shared-slice-read-is-name-continue
-    is-name-continue-requires
+    (λ c. search needs)
+    (λ c κs. search needs)
     returns-3
-    add-i
-    loop-less
+    (λ c. search needs)
+    (λ c. search needs)
     loop-again
     returns-4)

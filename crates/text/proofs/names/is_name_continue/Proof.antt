@@ -5,9 +5,6 @@ use borrow.Author.Needs.{needs}
 use Rattle.text.proofs.names.is_name_continue.Statement.{statement}
 use Rattle.text.proofs.names.is_name_continue.Tie as tie
 
-is-name-start-requires : tie.Need-is-name-start-requires
-is-name-start-requires c κs = search needs
-
 returns : tie.Need-returns
 returns c = search continue-start
 
@@ -18,4 +15,4 @@ returns-3 : tie.Need-returns-3
 returns-3 c = search continue-none
 
 pub is-name-continue-spec : {M : Type 1} → statement M
-is-name-continue-spec = tie.close (tie.spec is-name-start-requires returns returns-2 returns-3)
+is-name-continue-spec = tie.close (tie.spec (λ c κs. search needs) returns returns-2 returns-3)

@@ -8,18 +8,6 @@ use Rattle.text.proofs.numbers.find_digits.Tie as tie
 returns : tie.Need-returns
 returns c = search no-digits1
 
-shared-slice-read-is-digit : tie.Need-shared-slice-read-is-digit
-shared-slice-read-is-digit c = search needs
-
-is-digit-requires : tie.Need-is-digit-requires
-is-digit-requires c κs = search needs
-
-add-past-digits : tie.Need-add-past-digits
-add-past-digits c = search needs
-
-past-digits-requires : tie.Need-past-digits-requires
-past-digits-requires c κs = search needs
-
 returns-2 : tie.Need-returns-2
 returns-2 c = search digits1-there
 
@@ -31,9 +19,9 @@ find-digits-spec =
     tie.close
     (tie.spec
     returns
-    shared-slice-read-is-digit
-    is-digit-requires
-    add-past-digits
-    past-digits-requires
+    (λ c. search needs)
+    (λ c κs. search needs)
+    (λ c. search needs)
+    (λ c κs. search needs)
     returns-2
     returns-3)

@@ -8,15 +8,6 @@ use Rattle.text.proofs.numbers.find_frac.Tie as tie
 returns : tie.Need-returns
 returns c = search no-frac
 
-shared-slice-read-if2 : tie.Need-shared-slice-read-if2
-shared-slice-read-if2 c = search needs
-
-add-find-digits : tie.Need-add-find-digits
-add-find-digits c = search needs
-
-find-digits-requires : tie.Need-find-digits-requires
-find-digits-requires c κs = search needs
-
 returns-2 : tie.Need-returns-2
 returns-2 c = search frac-there
 
@@ -28,8 +19,8 @@ find-frac-spec =
     tie.close
     (tie.spec
     returns
-    shared-slice-read-if2
-    add-find-digits
-    find-digits-requires
+    (λ c. search needs)
+    (λ c. search needs)
+    (λ c κs. search needs)
     returns-2
     returns-3)

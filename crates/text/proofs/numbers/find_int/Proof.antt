@@ -8,17 +8,8 @@ use Rattle.text.proofs.numbers.find_int.Tie as tie
 returns : tie.Need-returns
 returns c = search no-int
 
-shared-slice-read-if2 : tie.Need-shared-slice-read-if2
-shared-slice-read-if2 c = search needs
-
-add-t7 : tie.Need-add-t7
-add-t7 c = search needs
-
 returns-2 : tie.Need-returns-2
 returns-2 c = search int-zero
-
-find-digits-requires : tie.Need-find-digits-requires
-find-digits-requires c κs = search needs
 
 returns-3 : tie.Need-returns-3
 returns-3 c = search int-digits
@@ -26,4 +17,4 @@ returns-3 c = search int-digits
 pub find-int-spec : {M : Type 1} → statement M
 find-int-spec =
     tie.close
-    (tie.spec returns shared-slice-read-if2 add-t7 returns-2 find-digits-requires returns-3)
+    (tie.spec returns (λ c. search needs) (λ c. search needs) returns-2 (λ c κs. search needs) returns-3)

@@ -5,33 +5,6 @@ use borrow.Author.Needs.{needs}
 use Rattle.text.proofs.numbers.is_frac_or_exp.Statement.{statement}
 use Rattle.text.proofs.numbers.is_frac_or_exp.Tie as tie
 
-find-frac-requires : tie.Need-find-frac-requires
-find-frac-requires c κs = search needs
-
-enum-known-past : tie.Need-enum-known-past
-enum-known-past c = search needs
-
-find-exp-requires : tie.Need-find-exp-requires
-find-exp-requires c κs = search needs
-
-enum-known-end : tie.Need-enum-known-end
-enum-known-end c = search needs
-
-enum-told : tie.Need-enum-told
-enum-told c = search needs
-
-enum-told-2 : tie.Need-enum-told-2
-enum-told-2 c = search needs
-
-find-exp-requires-2 : tie.Need-find-exp-requires-2
-find-exp-requires-2 c κs = search needs
-
-enum-known-end-2 : tie.Need-enum-known-end-2
-enum-known-end-2 c = search needs
-
-enum-told-3 : tie.Need-enum-told-3
-enum-told-3 c = search needs
-
 returns : tie.Need-returns
 returns c = search frac-and-exp
 
@@ -48,15 +21,15 @@ pub is-frac-or-exp-spec : {M : Type 1} → statement M
 is-frac-or-exp-spec =
     tie.close
     (tie.spec
-    find-frac-requires
-    enum-known-past
-    find-exp-requires
-    enum-known-end
-    enum-told
-    enum-told-2
-    find-exp-requires-2
-    enum-known-end-2
-    enum-told-3
+    (λ c κs. search needs)
+    (λ c. search needs)
+    (λ c κs. search needs)
+    (λ c. search needs)
+    (λ c. search needs)
+    (λ c. search needs)
+    (λ c κs. search needs)
+    (λ c. search needs)
+    (λ c. search needs)
     returns
     returns-2
     returns-3

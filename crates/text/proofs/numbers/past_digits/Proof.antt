@@ -18,20 +18,8 @@ abbrev μ-loop : tie.MeasureT-loop
 loop-holds : tie.Need-loop-holds Inv-loop μ-loop
 loop-holds c = refl
 
-shared-slice-read-is-digit : tie.Need-shared-slice-read-is-digit Inv-loop μ-loop
-shared-slice-read-is-digit c = search needs
-
-is-digit-requires : tie.Need-is-digit-requires Inv-loop μ-loop
-is-digit-requires c κs = search needs
-
 returns : tie.Need-returns Inv-loop μ-loop
 returns c = search digits-stopped
-
-add-i : tie.Need-add-i Inv-loop μ-loop
-add-i c = search needs
-
-loop-less : tie.Need-loop-less Inv-loop μ-loop
-loop-less c = search needs
 
 loop-again : tie.Need-loop-again Inv-loop μ-loop
 loop-again c = search digits-more
@@ -46,10 +34,10 @@ past-digits-spec =
     Inv-loop
     μ-loop
     loop-holds
-    shared-slice-read-is-digit
-    is-digit-requires
+    (λ c. search needs)
+    (λ c κs. search needs)
     returns
-    add-i
-    loop-less
+    (λ c. search needs)
+    (λ c. search needs)
     loop-again
     returns-2)

@@ -8,12 +8,6 @@ use Rattle.text.proofs.numbers.past_minus.Tie as tie
 returns : tie.Need-returns
 returns c = search no-minus
 
-shared-slice-read-if2 : tie.Need-shared-slice-read-if2
-shared-slice-read-if2 c = search needs
-
-add-result : tie.Need-add-result
-add-result c = search needs
-
 returns-2 : tie.Need-returns-2
 returns-2 c = search minus-there
 
@@ -21,4 +15,4 @@ returns-3 : tie.Need-returns-3
 returns-3 c = search minus-absent
 
 pub past-minus-spec : {M : Type 1} → statement M
-past-minus-spec = tie.close (tie.spec returns shared-slice-read-if2 add-result returns-2 returns-3)
+past-minus-spec = tie.close (tie.spec returns (λ c. search needs) (λ c. search needs) returns-2 returns-3)

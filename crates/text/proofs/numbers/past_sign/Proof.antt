@@ -8,20 +8,8 @@ use Rattle.text.proofs.numbers.past_sign.Tie as tie
 returns : tie.Need-returns
 returns c = search no-sign
 
-shared-slice-read-if2 : tie.Need-shared-slice-read-if2
-shared-slice-read-if2 c = search needs
-
-add-result : tie.Need-add-result
-add-result c = search needs
-
 returns-2 : tie.Need-returns-2
 returns-2 c = search sign-minus
-
-shared-slice-read-if3 : tie.Need-shared-slice-read-if3
-shared-slice-read-if3 c = search needs
-
-add-result-2 : tie.Need-add-result-2
-add-result-2 c = search needs
 
 returns-3 : tie.Need-returns-3
 returns-3 c = search sign-plus
@@ -34,10 +22,10 @@ past-sign-spec =
     tie.close
     (tie.spec
     returns
-    shared-slice-read-if2
-    add-result
+    (λ c. search needs)
+    (λ c. search needs)
     returns-2
-    shared-slice-read-if3
-    add-result-2
+    (λ c. search needs)
+    (λ c. search needs)
     returns-3
     returns-4)

@@ -5,9 +5,6 @@ use borrow.Author.Needs.{needs}
 use Rattle.text.proofs.utf8.is_allowed.Statement.{statement}
 use Rattle.text.proofs.utf8.is_allowed.Tie as tie
 
-least-requires : tie.Need-least-requires
-least-requires c κs = search needs
-
 returns : tie.Need-returns
 returns c = search overlong
 
@@ -21,4 +18,4 @@ returns-4 : tie.Need-returns-4
 returns-4 c = search after-surrogates
 
 pub is-allowed-spec : {M : Type 1} → statement M
-is-allowed-spec = tie.close (tie.spec least-requires returns returns-2 returns-3 returns-4)
+is-allowed-spec = tie.close (tie.spec (λ c κs. search needs) returns returns-2 returns-3 returns-4)

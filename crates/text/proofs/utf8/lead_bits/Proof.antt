@@ -6,17 +6,8 @@ use borrow.Author.Needs.{needs}
 use Rattle.text.proofs.utf8.lead_bits.Statement.{statement}
 use Rattle.text.proofs.utf8.lead_bits.Tie as tie
 
-cast-wide : tie.Need-cast-wide
-cast-wide c = search needs
-
-shr-wide : tie.Need-shr-wide
-shr-wide c = search needs
-
-wide-requires : tie.Need-wide-requires
-wide-requires c κs = search needs
-
 returns : tie.Need-returns
 returns c = c .wide .ensures ∙ lead-masked (c .before .args .size) (c .before .args .lead) (c .before .pre)
 
 pub lead-bits-spec : {M : Type 1} → statement M
-lead-bits-spec = tie.close (tie.spec cast-wide shr-wide wide-requires returns)
+lead-bits-spec = tie.close (tie.spec (λ c. search needs) (λ c. search needs) (λ c κs. search needs) returns)

@@ -17,20 +17,11 @@ Inv-loop rule pool words sizes count row₀ row =
 abbrev μ-loop : tie.MeasureT-loop
 μ-loop rule pool words sizes count row₀ row = count - row
 
-is-obeyed-by-keys-requires : tie.Need-is-obeyed-by-keys-requires Inv-loop μ-loop
-is-obeyed-by-keys-requires c κs = search needs
-
 returns : tie.Need-returns Inv-loop μ-loop
 returns c = c .before .is-obeyed-by-keys .ensures (c .if1 .taken)
 
-row-count-requires : tie.Need-row-count-requires Inv-loop μ-loop
-row-count-requires c κs = search needs
-
 loop-holds : tie.Need-loop-holds Inv-loop μ-loop
 loop-holds c = (search needs, all-none _)
-
-holds-at-requires : tie.Need-holds-at-requires Inv-loop μ-loop
-holds-at-requires c κs = search needs
 
 returns-2 : tie.Need-returns-2 Inv-loop μ-loop
 returns-2 c =
@@ -40,12 +31,6 @@ returns-2 c =
       broken = falsified _ _ (c .before .holds-at .ensures) (c .if2 .taken);
       before = looked .loop .inv .1;
     }
-
-add-row : tie.Need-add-row Inv-loop μ-loop
-add-row c = search needs
-
-loop-less : tie.Need-loop-less Inv-loop μ-loop
-loop-less c = search needs
 
 loop-again : tie.Need-loop-again Inv-loop μ-loop
 loop-again c = (search needs, all-more _ (c .before .before .before .loop .row) (c .before .holds-at .result) (c .before .before .before .loop .inv .1) (c .before .holds-at .ensures) (c .if2 .left))
@@ -62,13 +47,13 @@ first-broken-spec =
     (tie.spec
     Inv-loop
     μ-loop
-    is-obeyed-by-keys-requires
+    (λ c κs. search needs)
     returns
-    row-count-requires
+    (λ c κs. search needs)
     loop-holds
-    holds-at-requires
+    (λ c κs. search needs)
     returns-2
-    add-row
-    loop-less
+    (λ c. search needs)
+    (λ c. search needs)
     loop-again
     returns-3)

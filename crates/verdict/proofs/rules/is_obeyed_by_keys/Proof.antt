@@ -8,19 +8,10 @@ use Rattle.verdict.proofs.rules.is_obeyed_by_keys.Tie as tie
 returns : tie.Need-returns
 returns c = λ e. absurd (false≢true e)
 
-pool-bytes-requires : tie.Need-pool-bytes-requires
-pool-bytes-requires c κs = search needs
-
-table-requires : tie.Need-table-requires
-table-requires c κs = search needs
-
-all-node-keys-differ-requires : tie.Need-all-node-keys-differ-requires
-all-node-keys-differ-requires c κs = search needs
-
 returns-2 : tie.Need-returns-2
 returns-2 c = keys-obeyed _ _ _ (c .before .before .before .if1 .left) (c .before .before .pool-bytes .ensures) (c .before .table .ensures) (c .all-node-keys-differ .ensures)
 
 pub is-obeyed-by-keys-spec : {M : Type 1} → statement M
 is-obeyed-by-keys-spec =
     tie.close
-    (tie.spec returns pool-bytes-requires table-requires all-node-keys-differ-requires returns-2)
+    (tie.spec returns (λ c κs. search needs) (λ c κs. search needs) (λ c κs. search needs) returns-2)

@@ -6,35 +6,11 @@ use borrow.Author.Needs.{needs}
 use Rattle.writing.proofs.json.put_escaped.Statement.{statement}
 use Rattle.writing.proofs.json.put_escaped.Tie as tie
 
-escape-letter-requires : tie.Need-escape-letter-requires
-escape-letter-requires c κs = search needs
-
-put-requires : tie.Need-put-requires
-put-requires c κs = search needs
-
-put-requires-2 : tie.Need-put-requires-2
-put-requires-2 c κs = search needs
-
-same-length : tie.Need-same-length
-same-length c = search needs
-
 returns : tie.Need-returns
 returns c = same (sym (escaped-letter (c .before .before .before .before .before .before .before .before .before .before .before .args .b) (c .before .before .before .before .before .before .before .before .before .escape-letter .ensures) (c .before .before .before .before .before .before .before .before .if1 .taken))) (cons (c .before .before .before .before .before .before .put .ensures) (c .before .before .put2 .ensures))
 
-put-code-point-escape-requires : tie.Need-put-code-point-escape-requires
-put-code-point-escape-requires c κs = search needs
-
-same-length-2 : tie.Need-same-length-2
-same-length-2 c = search needs
-
 returns-2 : tie.Need-returns-2
 returns-2 c = same (sym (escaped-control (c .before .before .before .before .before .before .before .before .args .b) (c .before .before .before .before .before .before .escape-letter .ensures) (c .before .before .before .before .before .if1 .left) (c .before .before .before .before .if2 .taken))) (c .before .before .put-code-point-escape .ensures)
-
-put-requires-3 : tie.Need-put-requires-3
-put-requires-3 c κs = search needs
-
-same-length-3 : tie.Need-same-length-3
-same-length-3 c = search needs
 
 returns-3 : tie.Need-returns-3
 returns-3 c = same (sym (escaped-plain (c .before .before .before .before .before .before .before .before .args .b) (c .before .before .before .before .before .before .escape-letter .ensures) (c .before .before .before .before .before .if1 .left) (c .before .before .before .before .if2 .left))) (c .before .before .put3 .ensures)
@@ -43,14 +19,14 @@ pub put-escaped-spec : {M : Type 1} → statement M
 put-escaped-spec =
     tie.close
     (tie.spec
-    escape-letter-requires
-    put-requires
-    put-requires-2
-    same-length
+    (λ c κs. search needs)
+    (λ c κs. search needs)
+    (λ c κs. search needs)
+    (λ c. search needs)
     returns
-    put-code-point-escape-requires
-    same-length-2
+    (λ c κs. search needs)
+    (λ c. search needs)
     returns-2
-    put-requires-3
-    same-length-3
+    (λ c κs. search needs)
+    (λ c. search needs)
     returns-3)

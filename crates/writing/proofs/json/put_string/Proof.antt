@@ -5,22 +5,10 @@ use borrow.Author.Needs.{needs}
 use Rattle.writing.proofs.json.put_string.Statement.{statement}
 use Rattle.writing.proofs.json.put_string.Tie as tie
 
-put-requires : tie.Need-put-requires
-put-requires c κs = search needs
-
-put-escaped-all-requires : tie.Need-put-escaped-all-requires
-put-escaped-all-requires c κs = search needs
-
-put-requires-2 : tie.Need-put-requires-2
-put-requires-2 c κs = search needs
-
-same-length : tie.Need-same-length
-same-length c = search needs
-
 returns : tie.Need-returns
 unfolding quoted
 returns c = cons (c .before .before .before .before .before .before .before .before .before .before .put .ensures) («then» (c .before .before .before .before .before .before .put-escaped-all .ensures) (c .before .before .put2 .ensures))
 
 pub put-string-spec : {M : Type 1} → statement M
 put-string-spec =
-    tie.close (tie.spec put-requires put-escaped-all-requires put-requires-2 same-length returns)
+    tie.close (tie.spec (λ c κs. search needs) (λ c κs. search needs) (λ c κs. search needs) (λ c. search needs) returns)

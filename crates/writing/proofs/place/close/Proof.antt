@@ -9,27 +9,12 @@ use borrow.Author.Needs.{needs}
 use Rattle.writing.proofs.place.close.Statement.{statement}
 use Rattle.writing.proofs.place.close.Tie as tie
 
-put-requires : tie.Need-put-requires
-put-requires c κs = search needs
-
-put-requires-2 : tie.Need-put-requires-2
-put-requires-2 c κs = search needs
-
-same-length : tie.Need-same-length
-same-length c = search needs
-
 returns : tie.Need-returns
 returns c = closes-none (c .before .before .before .before .before .before .before .before .if1 .taken) (c .before .before .before .before .before .before .put .ensures) (c .before .before .put2 .ensures)
 
 -- the text once the left bracket is written, if there is room for it
 marked : (c : tie.Joined2) → c .if2 .text ≡ set (c .before .before .before .args .text .now) (c .before .before .before .args .start) (c .before .before .before .args .left)
 marked c = ⊎-elim (λ w. w .1) (λ w. w .1 ∙ sym (set-out _ _ _ (w .0 .left))) (c .if2 .came)
-
-slice-write-text : tie.Need-slice-write-text
-slice-write-text c = search needs
-
-put-requires-3 : tie.Need-put-requires-3
-put-requires-3 c κs = search needs
 
 same-length-2 : tie.Need-same-length-2
 same-length-2 c = c .before .before .put3 .kept .0 ∙ ap length (marked (c .before .before .before .before)) ∙ simp length-set
@@ -41,11 +26,11 @@ pub close-spec : {M : Type 1} → statement M
 close-spec =
     tie.close
     (tie.spec
-    put-requires
-    put-requires-2
-    same-length
+    (λ c κs. search needs)
+    (λ c κs. search needs)
+    (λ c. search needs)
     returns
-    slice-write-text
-    put-requires-3
+    (λ c. search needs)
+    (λ c κs. search needs)
     same-length-2
     returns-2)

@@ -6,12 +6,6 @@ use borrow.Author.Needs.{needs}
 use Rattle.writing.proofs.place.turn_into_place.Statement.{statement}
 use Rattle.writing.proofs.place.turn_into_place.Tie as tie
 
-rotate-requires : tie.Need-rotate-requires
-rotate-requires c κs = search needs
-
-same-length : tie.Need-same-length
-same-length c = search needs
-
 returns : tie.Need-returns
 returns c = moves-rotated _ _ _ _ (omega arith) (omega arith) (omega arith) (c .before .before .rotate .ensures)
 
@@ -26,4 +20,4 @@ returns-4 c = moves-not-over _ _ _ _ (c .if1 .left)
 
 pub turn-into-place-spec : {M : Type 1} → statement M
 turn-into-place-spec =
-    tie.close (tie.spec rotate-requires same-length returns returns-2 returns-3 returns-4)
+    tie.close (tie.spec (λ c κs. search needs) (λ c. search needs) returns returns-2 returns-3 returns-4)

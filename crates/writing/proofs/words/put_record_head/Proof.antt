@@ -4,22 +4,10 @@ use borrow.Author.Needs.{needs}
 use Rattle.writing.proofs.words.put_record_head.Statement.{statement}
 use Rattle.writing.proofs.words.put_record_head.Tie as tie
 
-put-word-requires : tie.Need-put-word-requires
-put-word-requires c κs = search needs
-
-put-word-requires-2 : tie.Need-put-word-requires-2
-put-word-requires-2 c κs = search needs
-
-put-word-requires-3 : tie.Need-put-word-requires-3
-put-word-requires-3 c κs = search needs
-
-same-length : tie.Need-same-length
-same-length c = search needs
-
 returns : tie.Need-returns
 returns c = cons (c .before .before .before .before .before .before .before .before .before .before .put-word .ensures) (cons (c .before .before .before .before .before .before .put-word2 .ensures) (c .before .before .put-word3 .ensures))
 
 pub put-record-head-spec : {M : Type 1} → statement M
 put-record-head-spec =
     tie.close
-    (tie.spec put-word-requires put-word-requires-2 put-word-requires-3 same-length returns)
+    (tie.spec (λ c κs. search needs) (λ c κs. search needs) (λ c κs. search needs) (λ c. search needs) returns)

@@ -4,17 +4,8 @@ use borrow.Author.Needs.{needs}
 use Rattle.writing.proofs.words.put_segment.Statement.{statement}
 use Rattle.writing.proofs.words.put_segment.Tie as tie
 
-put-word-requires : tie.Need-put-word-requires
-put-word-requires c κs = search needs
-
-put-word-requires-2 : tie.Need-put-word-requires-2
-put-word-requires-2 c κs = search needs
-
-same-length : tie.Need-same-length
-same-length c = search needs
-
 returns : tie.Need-returns
 returns c = cons (c .before .before .before .before .before .before .put-word .ensures) (c .before .before .put-word2 .ensures)
 
 pub put-segment-spec : {M : Type 1} → statement M
-put-segment-spec = tie.close (tie.spec put-word-requires put-word-requires-2 same-length returns)
+put-segment-spec = tie.close (tie.spec (λ c κs. search needs) (λ c κs. search needs) (λ c. search needs) returns)
