@@ -1,8 +1,7 @@
--- The walk reads the sets, the selections and the fragments alone, and in lawful tables these are few. Assumes nothing.
+-- In lawful tables the sets, the selections and the fragments are few. Assumes nothing.
 use mathlib.Core.Path.{_≡_, refl}
 use mathlib.Core.Bool.{true, _&&_}
 use mathlib.Core.List.{List, [], _∷_}
-use mathlib.Core.Option.{Option, none, some}
 use Prim.Native.Nat.{ℕ, zero, suc, _+_, _*_, _/_, _%_, _≤_, _<_, max}
 use native.Mathlib.Decide.{decLe}
 use native.Mathlib.Omega.{arith}
@@ -12,57 +11,13 @@ use borrow.Author.Tests.{leb-true, eqb-true}
 use Rattle.rows.specs.Layout.{setWidth, selectionWidth, fragmentWidth}
 use Rattle.rows.specs.Rows.{rowsOf, cell, counted}
 use Rattle.rows.specs.Document.{setAt}
-use Rattle.rows.specs.declared.document.Selected.{Selected}
-use Rattle.rows.specs.declared.document.Selected.the-variants.{Field, Spread, Inline, Unknown}
 use Rattle.rows.proofs.Every.{and-left, and-right}
 use Rattle.tables.specs.Tables.{Tables}
 use Rattle.tables.specs.Rules.{ruleAt, rowsLawful}
 use Rattle.tables.specs.Defaults.{defaultsClosed}
 use Rattle.tables.specs.Lawful.{lawful}
 use Rattle.tables.proofs.Lawful.{rule-holds}
-use Rattle.graphql.specs.Lookup.{fragmentNamed, selectionsOf}
-use Rattle.graphql.specs.Depth.{Rises, riseOf, Checked, tooManySets, tooDeep, depth, andThen, childSet, checkField, metAgain, remembered, checkFragment, checkSpread, checkSelected, checkSelections, checkSet}
-use Rattle.introspection.specs.MaxDepth.{documentOf, Walkable}
-
--- ---- what the walk reads
-
-then-same : (x : Checked) {k k' : ℕ → Rises → Checked} → ((d : ℕ) (rises : Rises) → k d rises ≡ k' d rises) → andThen x k ≡ andThen x k'
-unfolding andThen
-then-same tooManySets h = refl
-then-same (tooDeep place) h = refl
-then-same (depth d rises) h = h d rises
-
-module _ (T : Tables) where
-  abbrev read : Tables
-  read = documentOf (T .sets) (T .selections) (T .fragments)
-
-  module _ (f g : ℕ → ℕ → Rises → Checked) (same : (set d : ℕ) (rises : Rises) → f set d rises ≡ g set d rises) (sofar : ℕ) where
-    spread-same : (place n : ℕ) (o : Option ℕ) (rises : Rises) → checkSpread T f sofar place n o rises ≡ checkSpread read g sofar place n o rises
-    unfolding checkSpread checkFragment metAgain remembered
-    spread-same place n none rises = refl
-    spread-same place n (some row) rises = go (riseOf n rises)
-      where
-        go : (o : Option ℕ) → checkFragment T f sofar place n row o rises ≡ checkFragment read g sofar place n row o rises
-        go none = rw same
-        go (some rise) = refl
-
-    selected-same : (place : ℕ) (what : Selected) (rises : Rises) → checkSelected T f sofar place what rises ≡ checkSelected read g sofar place what rises
-    unfolding checkSelected checkField childSet fragmentNamed
-    selected-same place (Field field) rises = rw (same (field .set) (suc sofar) rises, same (field .set) sofar rises)
-    selected-same place (Spread n) rises = spread-same place n (fragmentNamed T n) rises
-    selected-same place (Inline type set) rises = same set sofar rises
-    selected-same place Unknown rises = refl
-
-    selections-same : (rows : List ℕ) (deepest : ℕ) (rises : Rises) → checkSelections T f sofar rows deepest rises ≡ checkSelections read g sofar rows deepest rises
-    unfolding checkSelections
-    selections-same [] deepest rises = refl
-    selections-same (row ∷ rest) deepest rises = rw selected-same (then-same _ (λ d rises'. selections-same rest (max deepest d) rises'))
-
-  pub set-same : (room set sofar : ℕ) (rises : Rises) → checkSet T room set sofar rises ≡ checkSet read room set sofar rises
-  unfolding checkSet selectionsOf
-  set-same zero set sofar rises = refl
-  set-same (suc room) set sofar rises =
-      selections-same (checkSet T room) (checkSet read room) (λ s d r. set-same room s d r) sofar (selectionsOf T set) sofar rises
+use Rattle.introspection.specs.MaxDepth.{Walkable}
 
 -- ---- lawful tables
 
