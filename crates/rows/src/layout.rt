@@ -23,7 +23,11 @@ pub fn row_count(t: &[u32], width: usize) -> u32
     ensures { λ r. ⌜ r ≡ rowsOf (now (t .entry)) width ⌝ }
 {
     let n = t.len() / width;
-    if n < MOST_ROWS { n as u32 } else { MOST_ROWS as u32 }
+    if n < MOST_ROWS {
+        n as u32
+    } else {
+        MOST_ROWS as u32
+    }
 }
 
 // The word in a column of a row; 0 where the table ends before it.

@@ -85,7 +85,14 @@ pub fn member_row(names: u32, members: &[u32], row: u32) -> bool
 }
 
 // What a field and an argument have in common: a name, a type reference, and a literal for a default or none.
-fn is_typed(names: u32, type_refs: u32, literals: u32, name: u32, ty: u32, default: Optional) -> bool
+fn is_typed(
+    names: u32,
+    type_refs: u32,
+    literals: u32,
+    name: u32,
+    ty: u32,
+    default: Optional,
+) -> bool
     ensures { λ r. ⌜ r ≡ argumentLawful names «type_refs» literals name ty default ⌝ }
 {
     ((name < names) & (ty < type_refs)) & is_row_or_none(literals, default)
@@ -127,7 +134,14 @@ pub fn argument_row(names: u32, type_refs: u32, literals: u32, arguments: &[u32]
 {
     let argument = argument_at(arguments, row);
     let default = argument.default;
-    is_typed(names, type_refs, literals, argument.name, argument.ty, default)
+    is_typed(
+        names,
+        type_refs,
+        literals,
+        argument.name,
+        argument.ty,
+        default,
+    )
 }
 
 pub fn arguments_differ(fields: &[u32], arguments: &[u32], row: u32) -> bool
