@@ -1,10 +1,23 @@
--- Worked examples: what the definitions of Utf8, Names and Numbers say of a text that is written out, by computation.
+-- Worked examples: what the definitions of Ascii, Utf8, Names and Numbers say of a text that is written out, by computation.
 use mathlib.Core.Path.{_≡_, refl}
 use mathlib.Core.Bool.{true, false}
 use mathlib.Core.List.{[], _∷_}
+use Rattle.text.specs.Ascii.{isAscii}
 use Rattle.text.specs.Utf8.{isUtf8, octetsAfter, characterNumber}
 use Rattle.text.specs.Names.{isName, allNameContinue, NameStart, NameContinue}
 use Rattle.text.specs.Numbers.{isFloat, fracOrExp, int, frac, exp, sign, zero, plus, minus, e, digit1-9, decimal-point, digits, digits1}
+
+-- ---- US-ASCII
+
+-- DEL, the last
+last-of-ascii : isAscii (0x41 ∷ 0x7F ∷ []) ≡ true
+unfolding isAscii
+last-of-ascii = refl
+
+-- U+0080 in UTF-8
+after-ascii : isAscii (0x41 ∷ 0xC2 ∷ 0x80 ∷ []) ≡ false
+unfolding isAscii
+after-ascii = refl
 
 -- ---- UTF-8
 
