@@ -1,10 +1,11 @@
 // Well-formed UTF-8 (RFC 3629). A character is decoded as section 3 of the RFC says, and refused where its code point
 // is one that its sequence must not spell; that this is the ABNF of section 4 is what `is_utf8` ensures.
 ghost use mathlib.Core.Path.{_≡_};
-ghost use Prim.Native.Nat.{_+_, _*_, _%_, _≤_, _<_, _^_};
-ghost use lib.ListN.{length, getD};
+ghost use mathlib.Core.Bool.{true};
+ghost use Prim.Native.Nat.{_+_, _-_, _*_, _%_, _≤_, _<_, _^_};
+ghost use lib.ListN.{length, getD, take, drop};
 ghost use Rattle.text.specs.Grammar.{_∈_};
-ghost use Rattle.text.specs.Utf8.{UTF8-tail, isUtf8, Leads, leadBits, leastFor, allowed};
+ghost use Rattle.text.specs.Utf8.{UTF8-tail, isUtf8, isBoundary, Leads, leadBits, leastFor, allowed};
 ghost use Rattle.text.specs.Found.{Decodes};
 use crate::ascii::past_ascii;
 
@@ -147,4 +148,31 @@ pub fn is_utf8(s: &[u8]) -> bool
         }
     }
     true
+}
+
+// Whether a character begins at `at`, or the text ends there.
+fn is_boundary(s: &[u8], at: usize) -> bool
+    requires { ⌜ at ≤ length (now s) ⌝ }
+    ensures { λ r. ⌜ r ≡ isBoundary (now (s .entry)) at ⌝ }
+{
+    if at == s.len() {
+        return true;
+    }
+    !is_tail(s[at])
+}
+
+// Whether the part of `pool` from `start` up to `end` is well-formed UTF-8, where all of it is: two looks, whatever the length.
+pub fn is_part_utf8(pool: &[u8], start: usize, end: usize) -> bool
+    requires { ⌜ isUtf8 (now pool) ≡ true ⌝ }
+    requires { ⌜ start ≤ end ⌝ }
+    requires { ⌜ end ≤ length (now pool) ⌝ }
+    ensures { λ r. ⌜ r ≡ isUtf8 (take (end - start) (drop start (now (pool .entry)))) ⌝ }
+{
+    if start == end {
+        return true;
+    }
+    if !is_boundary(pool, start) {
+        return false;
+    }
+    is_boundary(pool, end)
 }
