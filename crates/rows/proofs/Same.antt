@@ -87,8 +87,9 @@ module _ (a b : List ℕ) (i : ℕ) (inv : same a b ≡ same (drop i a) (drop i 
       → r ≡ same (take (length a - (length a - n)) (drop (length a - n) a)) (take (length b - (length a - n)) (drop (length a - n) b))
       → r ≡ same a b
   block-last n r h e =
-      by-answer r
-      (e ∙ rw (take-all (length a - k) (drop k a) (simp length-drop (omega arith)), take-all (length b - k) (drop k b) (simp length-drop (omega arith))))
+      let whole-a : take (length a - k) (drop k a) ≡ drop k a = take-all (length a - k) (drop k a) (simp length-drop (omega arith)) in
+      let whole-b : take (length b - k) (drop k b) ≡ drop k b = take-all (length b - k) (drop k b) (simp length-drop (omega arith)) in
+      by-answer r (e ∙ rw (whole-a, whole-b))
     where
       k : ℕ
       k = length a - n

@@ -3,19 +3,19 @@
 use mathlib.Core.Path.{_≡_, refl, sym, ap, _∙_}
 use mathlib.Core.Bool.{Bool, true, false, not, _&&_, and-assoc, and-true}
 use mathlib.Core.List.{List, [], _∷_, _++_}
-use Prim.Native.Nat.{ℕ, _+_, _-_, _*_, _≤_, _<_}
+use Prim.Native.Nat.{ℕ, _+_, _-_, _≤_, _<_}
 use native.Mathlib.Nat.{add-mul}
 use native.Mathlib.Numerals.{add-one}
 use native.Mathlib.Omega.{arith}
 use borrow.Author.Tests.{lt-ltb, le-ltb, ltb-true, ltb-false, not-true, not-false}
 use lib.Dec.{ltb}
-use lib.Bits.{bitOr, bitAnd, or-lt, or-comm, or-add-and, and-le-l, and-le-r}
+use lib.Bits.{bitOr, or-lt, or-add-and, and-le-l, and-le-r}
 use lib.ListN.{length, getD, take, drop}
 use lib.Seq.{take-suc, take-all, take-add, drop-drop}
 use Rattle.text.specs.Ascii.{isAscii}
 use Rattle.text.specs.Found.{AsciiBlocks, PastAscii}
 
-pub ascii-append : (s t : List ℕ) → isAscii (s ++ t) ≡ (isAscii s && isAscii t)
+ascii-append : (s t : List ℕ) → isAscii (s ++ t) ≡ (isAscii s && isAscii t)
 unfolding isAscii
 ascii-append [] t = refl
 ascii-append (a ∷ s) t = ap (λ (b : Bool). ltb a 0x80 && b) (ascii-append s t) ∙ sym (and-assoc (ltb a 0x80) (isAscii s) (isAscii t))
@@ -75,7 +75,7 @@ module _ (s : List ℕ) (n from at : ℕ) (passed : AsciiBlocks s n from at) whe
   blocks-over h = record { passed = passed; stopped = λ k. let z : ⊥ = omega arith in absurd z }
 
   -- blocks of another size behind them
-  pub blocks-behind : (m next : ℕ) → AsciiBlocks s m at next → AsciiBlocks s 1 from next
+  blocks-behind : (m next : ℕ) → AsciiBlocks s m at next → AsciiBlocks s 1 from next
   blocks-behind m next more =
       record {
         blocks = next - from;
@@ -91,7 +91,8 @@ blocks-none s n from h =
     record { blocks = 0; whole = omega arith; inside = h; ascii = rw nothing }
 
 -- blocks of any two sizes, and then octet by octet
-pub past-all : (s : List ℕ) (n m from long short next : ℕ) → PastAscii s n from long → PastAscii s m long short → PastAscii s 1 short next → PastAscii s 1 from next
+pub past-all : (s : List ℕ) (n m from long short next : ℕ)
+    → PastAscii s n from long → PastAscii s m long short → PastAscii s 1 short next → PastAscii s 1 from next
 past-all s n m from long short next a b c =
     record {
       passed = blocks-behind s 1 from short (blocks-behind s n from long (a .passed) m short (b .passed)) 1 next (c .passed);

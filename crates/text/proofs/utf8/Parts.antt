@@ -5,7 +5,7 @@ use mathlib.Core.Path.{_≡_, refl, sym, ap, _∙_}
 use mathlib.Core.Bool.{Bool, true, false, cond, not, _&&_, _||_, true≢false}
 use mathlib.Core.List.{List, [], _∷_, _++_, append-nil}
 use mathlib.Core.Option.{Option, none, some}
-use Prim.Native.Nat.{ℕ, zero, suc, _+_, _-_, _≤_, _<_}
+use Prim.Native.Nat.{ℕ, zero, suc, _+_, _-_, _≤_}
 use native.Mathlib.Omega.{arith}
 use borrow.Author.Tests.{ltb-true, leb-true, ne-eqb, not-true, not-false}
 use lib.Dec.{ltb, leb, eqb, eqb·suc-zero}
@@ -99,7 +99,8 @@ unfolding orNone
 begun none s e = absurd (true≢false (sym e))
 begun (some ranges) s e = e
 
-begun-alike : (next : Option (List Range)) (s t : List ℕ) → ifSome next (octetsAfter s) ≡ true → ifSome next (octetsAfter t) ≡ octetsAfter t (orNone next)
+begun-alike : (next : Option (List Range)) (s t : List ℕ) → ifSome next (octetsAfter s) ≡ true
+    → ifSome next (octetsAfter t) ≡ octetsAfter t (orNone next)
 unfolding orNone
 begun-alike none s t e = absurd (true≢false (sym e))
 begun-alike (some ranges) s t e = refl
@@ -178,7 +179,8 @@ begun-inside [] k e = absurd (true≢false e)
 begun-inside (b ∷ t) k e = tail-first b (take k t) (not-false (b ∈ UTF8-tail) e)
 
 -- n octets from the m-th on, of a text that is UTF-8
-pub utf8-part : (pool : List ℕ) → isUtf8 pool ≡ true → (m n : ℕ) → isUtf8 (take n (drop m pool)) ≡ (eqb n 0 || (isBoundary pool m && isBoundary pool (m + n)))
+pub utf8-part : (pool : List ℕ) → isUtf8 pool ≡ true → (m n : ℕ)
+    → isUtf8 (take n (drop m pool)) ≡ (eqb n 0 || (isBoundary pool m && isBoundary pool (m + n)))
 unfolding isUtf8 octetsAfter
 utf8-part pool valid m zero = refl
 utf8-part pool valid m (suc k) = by-test (isBoundary pool m) refl

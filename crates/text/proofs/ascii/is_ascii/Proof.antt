@@ -1,5 +1,4 @@
--- A text is US-ASCII just if no octet has its highest bit, and what an `|` has gathered has each bit that one of the octets has.
--- Assumes nothing.
+-- What an `|` gathers has its highest bit just if one of the octets has. Assumes nothing.
 use mathlib.Core.Path.{_≡_}
 use Prim.Native.Nat.{_-_}
 use lib.Dec.{ltb}

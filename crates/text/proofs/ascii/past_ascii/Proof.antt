@@ -1,5 +1,4 @@
--- Runs of US-ASCII, one behind the other, are one run.
--- Assumes nothing.
+-- Runs of US-ASCII, one behind the other, are one run. Assumes nothing.
 use Rattle.text.proofs.ascii.Runs.{past-all}
 use borrow.Author.Needs.{needs}
 use Rattle.text.proofs.ascii.past_ascii.Statement.{statement}

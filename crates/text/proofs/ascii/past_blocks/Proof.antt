@@ -1,5 +1,4 @@
--- What was passed is whole blocks of US-ASCII; the block after it decides.
--- Assumes nothing.
+-- Blocks of US-ASCII, one behind the other, are US-ASCII. Assumes nothing.
 use Prim.Native.Nat.{_-_}
 use lib.ListN.{length}
 use Rattle.text.specs.Found.{AsciiBlocks}

@@ -1,5 +1,4 @@
--- An octet of 128 or more is the first of two, three or four, or of no sequence.
--- Assumes nothing.
+-- An octet of 128 or more is the first of two, three or four octets, or of none. Assumes nothing.
 use Rattle.text.proofs.utf8.Decoding.{leads-as, read-no-lead}
 use borrow.Author.Needs.{needs}
 use Rattle.text.proofs.utf8.decode.Statement.{statement}

@@ -1,5 +1,4 @@
--- The sequence is half read (`Half`): what is still to come decides, by the number so far and the octets after it.
--- Assumes nothing.
+-- Of a sequence that is half read, the number so far and what is still to come decide. Assumes nothing.
 use Prim.Native.Nat.{_+_, _-_}
 use Rattle.text.proofs.utf8.Decoding.{Half, read-short, leads-small, half-begun, half-fits, half-refused, half-more, read-whole, read-not-allowed}
 use borrow.Author.Needs.{needs}

@@ -1,5 +1,4 @@
--- Past the end of a text there is no octet, so no continuation octet either.
--- Assumes nothing.
+-- Past the end of a text there is no octet, so no continuation octet either. Assumes nothing.
 use Rattle.text.proofs.utf8.Parts.{boundary-end, boundary-looked}
 use borrow.Author.Needs.{needs}
 use Rattle.text.proofs.utf8.is_boundary.Statement.{statement}

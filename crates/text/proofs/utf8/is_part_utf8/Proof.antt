@@ -1,5 +1,4 @@
--- A part of UTF-8 is UTF-8 just if it is empty, or begins and ends between characters.
--- Assumes nothing.
+-- A part of UTF-8 is UTF-8 just if it is empty, or begins and ends between characters. Assumes nothing.
 use Rattle.text.proofs.utf8.Parts.{part-empty, part-inside, part-from}
 use borrow.Author.Needs.{needs}
 use Rattle.text.proofs.utf8.is_part_utf8.Statement.{statement}

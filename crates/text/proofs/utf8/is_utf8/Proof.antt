@@ -1,5 +1,4 @@
--- A text is UTF-8 just if what is left of it is, behind any number of whole characters.
--- Assumes nothing.
+-- A text is UTF-8 just if what is left of it is, behind any number of whole characters. Assumes nothing.
 use mathlib.Core.Path.{_≡_, refl}
 use Prim.Native.Nat.{_-_}
 use lib.ListN.{length, drop}
