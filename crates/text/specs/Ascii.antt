@@ -1,4 +1,4 @@
--- US-ASCII, as RFC 3629 names it: "Character numbers from U+0000 to U+007F (US-ASCII repertoire) correspond to octets 00 to 7F".
+-- US-ASCII (RFC 3629, section 1): "Character numbers from U+0000 to U+007F (US-ASCII repertoire) correspond to octets 00 to 7F".
 use mathlib.Core.Bool.{Bool, true, _&&_}
 use mathlib.Core.List.{List, [], _∷_}
 use Prim.Native.Nat.{ℕ}

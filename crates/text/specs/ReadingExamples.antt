@@ -3,7 +3,7 @@ use mathlib.Core.Path.{_≡_, refl}
 use mathlib.Core.Bool.{true, false}
 use mathlib.Core.List.{[], _∷_}
 use Rattle.text.specs.Ascii.{isAscii}
-use Rattle.text.specs.Utf8.{isUtf8, octetsAfter, characterNumber}
+use Rattle.text.specs.Utf8.{isUtf8, octetsAfter, isBoundary, characterNumber}
 use Rattle.text.specs.Names.{isName, allNameContinue, NameStart, NameContinue}
 use Rattle.text.specs.Numbers.{isFloat, fracOrExp, int, frac, exp, sign, zero, plus, minus, e, digit1-9, decimal-point, digits, digits1}
 
@@ -30,6 +30,16 @@ empty-text = refl
 rfc-example : isUtf8 (0x41 ∷ 0xE2 ∷ 0x89 ∷ 0xA2 ∷ 0xCE ∷ 0x91 ∷ 0x2E ∷ []) ≡ true
 unfolding isUtf8 octetsAfter
 rfc-example = refl
+
+-- after the A, after the first octet of U+2262, and at the end
+boundary-between : isBoundary (0x41 ∷ 0xE2 ∷ 0x89 ∷ 0xA2 ∷ []) 1 ≡ true
+boundary-between = refl
+
+no-boundary-inside : isBoundary (0x41 ∷ 0xE2 ∷ 0x89 ∷ 0xA2 ∷ []) 2 ≡ false
+no-boundary-inside = refl
+
+boundary-at-the-end : isBoundary (0x41 ∷ 0xE2 ∷ 0x89 ∷ 0xA2 ∷ []) 4 ≡ true
+boundary-at-the-end = refl
 
 -- U+0080, the first of two octets
 least-of-two : isUtf8 (0xC2 ∷ 0x80 ∷ []) ≡ true

@@ -93,7 +93,7 @@ due-tails (suc n) [] ranges e = e
 due-tails (suc n) (a ∷ s) [] e = due-tails n s (orNone (following UTF8-char a)) (following-tails UTF8-char a refl)
 due-tails (suc n) (b ∷ s) ((low to high) ∷ ranges) e = due-tails n s ranges (and-right (leb 0x80 low && leb high 0xBF) (tails ranges) e)
 
--- a first octet with others to follow, in a text and in another that begins with it
+-- a first octet that some line has, with what follows it in a text, and in another that begins alike
 begun : (next : Option (List Range)) (s : List ℕ) → ifSome next (octetsAfter s) ≡ true → octetsAfter s (orNone next) ≡ true
 unfolding orNone
 begun none s e = absurd (true≢false (sym e))
@@ -105,7 +105,7 @@ unfolding orNone
 begun-alike none s t e = absurd (true≢false (sym e))
 begun-alike (some ranges) s t e = refl
 
--- a text that goes on as it should is, cut off, UTF-8 just if nothing is due there
+-- behind n octets comes what is due there
 due-drop : (n : ℕ) (s : List ℕ) (ranges : List Range) → octetsAfter s ranges ≡ true → octetsAfter (drop n s) (due n s ranges) ≡ true
 unfolding due octetsAfter
 due-drop zero s ranges e = e
@@ -118,6 +118,7 @@ unfolding octetsAfter
 nothing-due [] = refl
 nothing-due (range ∷ ranges) = refl
 
+-- cut off after n octets, all is whole just if nothing is due there
 due-take : (n : ℕ) (s : List ℕ) (ranges : List Range) → octetsAfter s ranges ≡ true → octetsAfter (take n s) ranges ≡ isNone (due n s ranges)
 unfolding due octetsAfter
 due-take zero s ranges e = nothing-due ranges
