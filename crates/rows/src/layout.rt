@@ -27,7 +27,7 @@ pub fn row_count(t: &[u32], width: usize) -> u32
 }
 
 // The word in a column of a row; 0 where the table ends before it.
-pub(crate) fn cell(t: &[u32], width: usize, row: usize, column: usize) -> u32
+pub fn cell(t: &[u32], width: usize, row: usize, column: usize) -> u32
     requires { ⌜ (row < 2 ^ 40) × (width ≤ 16) × (column < 16) ⌝ }
     ensures { λ r. ⌜ r ≡ Rows·cell (now (t .entry)) width row column ⌝ }
 {
@@ -152,7 +152,7 @@ fn is_new_by_marks(
 }
 
 // No two rows of the range have the same word in the column.
-pub(crate) fn is_distinct(t: &[u32], width: usize, column: usize, rows: Range) -> bool
+pub fn is_distinct(t: &[u32], width: usize, column: usize, rows: Range) -> bool
     requires { ⌜ (width ≤ 16) × (column < 16) ⌝ }
     ensures { λ r. ⌜ r ≡ distinct (now (t .entry)) width column rows ⌝ }
 {
