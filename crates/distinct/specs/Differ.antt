@@ -9,11 +9,11 @@ use lib.Dec.{leb, eqb}
 use Rattle.rows.specs.Rows.{all}
 
 -- row first + i differs from each of the i rows from first on
-abbrev pub isOther : (ℕ → ℕ → Bool) → ℕ → ℕ → Bool
+unfoldable pub isOther : (ℕ → ℕ → Bool) → ℕ → ℕ → Bool
 isOther other first i = all (λ j. other (first + i) (first + j)) i
 
 -- no two of the count rows from first on are the same
-abbrev pub differ : (ℕ → ℕ → Bool) → ℕ → ℕ → Bool
+unfoldable pub differ : (ℕ → ℕ → Bool) → ℕ → ℕ → Bool
 differ other first count = all (isOther other first) count
 
 -- for each end up to count a row: the rows from first to before end differ exactly if first is that row or a later one
