@@ -11,7 +11,7 @@ use native.Mathlib.Omega.{arith}
 use lib.Dec.{eqb, leb}
 use lib.ListN.{length, getD, set}
 use lib.Seq.{getD-set-same, getD-set-other}
-use borrow.Author.Tests.{eqb-true, eqb-false, leb-true, le-leb, lt-leb}
+use borrow.Author.Tests.{eqb-true, eqb-false, leb-true, le-leb, lt-leb, eq-eqb, ne-eqb}
 use Rattle.rows.specs.Rows.{all}
 use Rattle.rows.proofs.Every.{all-none, all-broken, all-each, all-same}
 use Rattle.distinct.specs.Differ.{isOther, differ, Since, AfterLast}
@@ -44,6 +44,13 @@ module _ (test : ℕ → Bool) where
           let m : from ≤ r = omega arith in
           rw (max-eq-right m) (record { low = m; high = a .high; others = a .others; last = λ k. a .last (omega arith) })
 
+zero-leb : (n : ℕ) → eqb n 0 ≡ leb n 0
+zero-leb n = go (decLe n 0)
+  where
+    go : Dec (n ≤ 0) → eqb n 0 ≡ leb n 0
+    go (yes h) = rw (le-leb n 0 h) (eq-eqb n 0 (omega arith))
+    go (no h) = rw (lt-leb n 0 (omega arith)) (ne-eqb n 0 (λ e. omega arith))
+
 module _ (other : ℕ → ℕ → Bool) where
   differ-none : (first : ℕ) → differ other first 0 ≡ true
   unfolding differ
@@ -73,6 +80,10 @@ module _ (other : ℕ → ℕ → Bool) where
     -- what the note on a range's end says of it
     pub since-range : (first n : ℕ) → first + n ≤ count → leb (getD since (first + n) 0) first ≡ differ other first n
     since-range first n l = sym (rw add-sub-cancel-left at (h .told (first + n) first l (omega arith)))
+
+    -- what the last note says of all rows
+    pub since-all : eqb (getD since count 0) 0 ≡ differ other 0 count
+    since-all = zero-leb (getD since count 0) ∙ (rw zero-add at (since-range 0 count (omega (arith, zero-add count))))
 
     -- the next row
     module _ (s : ℕ) (a : AfterLast (other count) (getD since count 0) count s) where

@@ -43,7 +43,7 @@ module _ (pool t : List ℕ) (width column : ℕ) where
     kept-one s l a = record {
       headed = lasts-one (textChain pool t width column) 2048 row (hash % 2048) heads (k .headed) chained (omega arith);
       linked = links-one (textChain pool t width column) row (getD heads (hash % 2048) 0) next (k .linked)
-        (lasts-found (textChain pool t width column) 2048 row (hash % 2048) heads (k .headed) chained (omega arith)) l;
+          (lasts-found (textChain pool t width column) 2048 row (hash % 2048) heads (k .headed) chained (omega arith)) l;
       hashed = kept-hashed l;
       told = since-one (otherText pool t width column) row since (k .told) s a (omega (arith, k .since-sized));
       hashes-sized = simp length-set (k .hashes-sized);

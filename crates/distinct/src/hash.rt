@@ -1,7 +1,6 @@
 // A hash of bytes, four bytes a step. Equal bytes have equal hashes, and nothing else is said of it: who finds two of one hash compares.
 ghost use mathlib.Core.Path.{_≡_};
 ghost use Prim.Native.Nat.{_+_, _*_, _-_, _≤_, _<_, _^_};
-
 ghost use lib.ListN.{length, getD};
 ghost use Rattle.distinct.specs.Hash.{wordAt, mixed, hashOf};
 

@@ -60,7 +60,11 @@ fn is_other(
     if hashes[one] != hashes[two] {
         return true;
     }
-    !are_same(pool, text_at(t, width, column, one), text_at(t, width, column, two))
+    !are_same(
+        pool,
+        text_at(t, width, column, one),
+        text_at(t, width, column, two),
+    )
 }
 
 // The row after the last one from `from` on and before `row` that has the text of `row`; `from` where none has it. `head` is the chain's.

@@ -39,9 +39,9 @@ loop-again c = (
   length-set (c .before .before .before .before .before .loop .since) (c .before .before .before .before .before .loop .row + 1) (c .later .result) ∙ c .before .before .before .before .before .loop .inv .1,
   lasts-one _ _ _ _ _ (c .before .before .before .before .before .loop .inv .2) (c .before .before .before .cell .ensures) (c .before .before .if1 .left),
   since-one _ _ _ (c .before .before .before .before .before .loop .inv .3) (c .later .result)
-  (rw (c .later .ensures)
-  (after-from _ _ _ _ (lasts-found _ _ _ _ _ (c .before .before .before .before .before .loop .inv .2) (c .before .before .before .cell .ensures) (c .before .before .if1 .left)) (since-low _ _ _ (c .before .before .before .before .before .loop .inv .3))))
-  (omega (arith, simp length-set at (c .before .before .before .before .before .loop .inv .1))),
+      (rw (c .later .ensures)
+      (after-from _ _ _ _ (lasts-found _ _ _ _ _ (c .before .before .before .before .before .loop .inv .2) (c .before .before .before .cell .ensures) (c .before .before .if1 .left)) (since-low _ _ _ (c .before .before .before .before .before .loop .inv .3))))
+      (omega (arith, simp length-set at (c .before .before .before .before .before .loop .inv .1))),
 )
 
 same-length-2 : tie.Need-same-length-2 Inv-loop μ-loop

@@ -20,9 +20,8 @@ unfolding hashSteps
 loop-holds c = (search needs, search needs, refl, search needs)
 
 loop-again : tie.Need-loop-again Inv-loop μ-loop
-loop-again c = 
-    let e : (c .before .before .before .loop .i + 4) / 4 ≡ c .before .before .before .loop .i / 4 + 1 = omega arith in
-    (
+loop-again c =
+    let e : (c .before .before .before .loop .i + 4) / 4 ≡ c .before .before .before .loop .i / 4 + 1 = omega arith in (
       search needs,
       search needs,
       rw (e, hash-more _ (c .before .before .before .loop .i / 4) (c .before .before .before .loop .i) (c .before .before .before .loop .inv .1), ← (c .before .before .before .loop .inv .2), ← (c .before .whole-word-at .ensures .0)) (c .mix .ensures .0),
@@ -31,7 +30,7 @@ loop-again c =
 
 returns : tie.Need-returns Inv-loop μ-loop
 unfolding hashOf
-returns c = 
+returns c =
     let e : length (c .before .before .before .before .before .args .bytes .now) / 4 ≡ c .before .before .before .loop .i / 4 = omega arith in
     rw (e, ← (c .before .before .before .loop .inv .2), ← (c .before .last-word .ensures .0), ← (c .mix2 .ensures .0))
 

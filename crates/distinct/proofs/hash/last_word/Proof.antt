@@ -8,7 +8,7 @@ use Rattle.distinct.proofs.hash.last_word.Statement.{statement}
 use Rattle.distinct.proofs.hash.last_word.Tie as tie
 
 returns : tie.Need-returns
-returns c = 
+returns c =
     let e : length (c .before .before .before .args .bytes .now) - 4 ≡ 0 = omega arith in
     rw e (c .first-word .ensures)
 

@@ -1,62 +1,32 @@
+-- The last note says of all rows whether their names differ. Assumes nothing.
+use mathlib.Core.Path.{_≡_, refl, sym, _∙_}
+use native.Mathlib.Omega.{arith}
+use Rattle.rows.specs.Names.{nameAt, otherName, nameNew}
+use Rattle.distinct.specs.Texts.{textAt}
+use Rattle.distinct.proofs.Differ.{since-all, differ-first}
+use Rattle.distinct.proofs.Kept.{kept-none}
 use borrow.Author.Needs.{needs}
 use Rattle.distinct.proofs.names.all_names_differ.Statement.{statement}
 use Rattle.distinct.proofs.names.all_names_differ.Tie as tie
-use Rattle.distinct.proofs.names.all_names_differ.Reads as reads
-use Rattle.distinct.proofs.names.all_names_differ.Lts as lts
-use Rattle.distinct.proofs.texts.note_texts.Reads as note-texts-reads
-use Rattle.rows.proofs.layout.row_count.Reads as row-count-reads
 
--- src/names.rt:15:16
-row-count-requires : tie.Need-row-count-requires
-row-count-requires c κs = search needs
-
--- src/names.rt:15:16
-cast-rows : tie.Need-cast-rows
-cast-rows c = search needs
-
--- src/names.rt:25:9
-slice-aggregate-note-texts : tie.Need-slice-aggregate-note-texts
-slice-aggregate-note-texts c = search needs
-
--- src/names.rt:26:9
-slice-aggregate-note-texts-2 : tie.Need-slice-aggregate-note-texts-2
-slice-aggregate-note-texts-2 c = search needs
-
--- src/names.rt:27:9
-slice-aggregate-note-texts-3 : tie.Need-slice-aggregate-note-texts-3
-slice-aggregate-note-texts-3 c = search needs
-
--- src/names.rt:28:9
-slice-aggregate-note-texts-4 : tie.Need-slice-aggregate-note-texts-4
-slice-aggregate-note-texts-4 c = search needs
-
--- src/names.rt:20:5
 note-texts-requires : tie.Need-note-texts-requires
-note-texts-requires c κs = ?
+note-texts-requires c κs = ((search needs, search needs, omega arith, omega arith), kept-none _ _ _ _ 512 513 refl)
 
--- src/names.rt:31:5
-mul-result : tie.Need-mul-result
-mul-result c = search needs
-
--- src/names.rt:31:5
-array-read-result : tie.Need-array-read-result
-array-read-result c = search needs
-
--- src/names.rt:11:1
 returns : tie.Need-returns
-returns c = ?
+unfolding nameNew nameAt textAt
+returns c = rw (← (c .before .before .before .before .before .before .before .before .before .row-count .ensures)) (since-all _ _ _ (c .before .before .before .before .note-texts .ensures .told) ∙ differ-first (otherName _ _) (nameNew _ _) _ (λ row. refl))
 
 pub all-names-differ-spec : {M : Type 1} → statement M
 all-names-differ-spec =
     tie.close
     (tie.spec
-    row-count-requires
-    cast-rows
-    slice-aggregate-note-texts
-    slice-aggregate-note-texts-2
-    slice-aggregate-note-texts-3
-    slice-aggregate-note-texts-4
+    (λ c κs. search needs)
+    (λ c. search needs)
+    (λ c. search needs)
+    (λ c. search needs)
+    (λ c. search needs)
+    (λ c. search needs)
     note-texts-requires
-    mul-result
-    array-read-result
+    (λ c. search needs)
+    (λ c. search needs)
     returns)

@@ -7,7 +7,7 @@ use Rattle.distinct.proofs.owners.selection_claims.Statement.{statement
 use Rattle.distinct.proofs.owners.selection_claims.Tie as tie
 
 returns : tie.Need-returns
-returns c = 
+returns c =
     let e = sym (c .before .before .owned-set .ensures) ∙ c .enum-told .given .1 in
     (rw e, selection-absent _ _ _ (c .before .before .before .before .before .pre) e)
 
@@ -21,7 +21,7 @@ slice-write-marks : tie.Need-slice-write-marks
 slice-write-marks c = omega (arith, c .before .before .before .before .before .before .before .before .pre .sized)
 
 returns-3 : tie.Need-returns-3
-returns-3 c = 
+returns-3 c =
     let e = sym (c .before .before .before .before .before .owned-set .ensures) ∙ c .before .before .before .owned .given .1 in
     (selection-told _ _ _ (c .before .before .before .before .before .before .before .before .pre) _ e (c .before .if1 .left), selection-marked _ _ _ (c .before .before .before .before .before .before .before .before .pre) _ e (c .before .if1 .left))
 

@@ -34,7 +34,7 @@ same-length-2 : tie.Need-same-length-2 Inv-loop μ-loop
 same-length-2 c = c .before .loop .inv .2 .sized ∙ sym (c .before .before .before .before .before .pre .sized)
 
 returns-2 : tie.Need-returns-2 Inv-loop μ-loop
-returns-2 c = 
+returns-2 c =
     let e : c .before .loop .row ≡ c .before .before .row-count .result = omega arith in
     rw (← (c .before .before .row-count .ensures)) (all-ended _ (c .before .loop .row) _ (c .before .loop .inv .1) (c .before .loop .inv .0) (c .loop-test .left), λ t. rw e at (c .before .loop .inv .2))
 

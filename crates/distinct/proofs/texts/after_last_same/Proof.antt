@@ -27,7 +27,7 @@ loop-less : tie.Need-loop-less Inv-loop μ-loop
 loop-less c = omega (arith, c .before .before .before .before .before .before .before .before .before .pre .1 .1 .0 .linked (c .before .before .before .before .loop .cursor - 1) (omega arith) .high)
 
 loop-again : tie.Need-loop-again Inv-loop μ-loop
-loop-again c = 
+loop-again c =
     cursor-step _ _ (chain-other _ _ _ _) _ _ _ (c .before .before .before .before .loop .inv) (omega arith)
     (verified (c .before .before .is-other .result) _ (c .before .before .is-other .ensures) (c .before .if1 .left))
     (c .before .before .before .before .before .before .before .before .before .pre .1 .1 .0 .linked (c .before .before .before .before .loop .cursor - 1) (omega arith))

@@ -26,9 +26,13 @@ cast-after-last-same c = omega (arith, c .before .before .before .slice-known5 .
 after-last-same-requires : tie.Need-after-last-same-requires
 after-last-same-requires c κs = (
   (search needs, search needs, search needs, simp length-set (omega (arith, c .before .before .before .before .before .before .before .before .before .before .before .pre .1 .hashes-sized)), search needs, since-low _ _ _ (c .before .before .before .before .before .before .before .before .before .before .before .pre .1 .told)),
-  (kept-hashed _ _ _ _ _ _ _ _ _ (c .before .before .before .before .before .before .before .before .before .before .before .pre .1) _ (c .before .before .before .before .hash-at .ensures) (omega arith),
-  (c .before .before .before .before .before .before .before .before .before .before .before .pre .1 .linked,
-  kept-cursor _ _ _ _ _ _ _ _ _ (c .before .before .before .before .before .before .before .before .before .before .before .pre .1) _ (c .before .before .before .before .hash-at .ensures))),
+  (
+    kept-hashed _ _ _ _ _ _ _ _ _ (c .before .before .before .before .before .before .before .before .before .before .before .pre .1) _ (c .before .before .before .before .hash-at .ensures) (omega arith),
+    (
+      c .before .before .before .before .before .before .before .before .before .before .before .pre .1 .linked,
+      kept-cursor _ _ _ _ _ _ _ _ _ (c .before .before .before .before .before .before .before .before .before .before .before .pre .1) _ (c .before .before .before .before .hash-at .ensures),
+    ),
+  ),
 )
 
 slice-write-heads : tie.Need-slice-write-heads

@@ -17,6 +17,9 @@ abbrev μ-loop : tie.MeasureT-loop
 loop-holds : tie.Need-loop-holds Inv-loop μ-loop
 loop-holds c = (search needs, refl, refl, refl, refl, c .before .before .before .before .before .before .pre .1)
 
+note-text-requires : tie.Need-note-text-requires Inv-loop μ-loop
+note-text-requires c κs = ((search needs, search needs, search needs, omega (arith, c .before .before .before .before .before .loop .inv .2)), c .before .before .before .before .before .loop .inv .5)
+
 loop-again : tie.Need-loop-again Inv-loop μ-loop
 loop-again c = (
   search needs,
@@ -27,6 +30,11 @@ loop-again c = (
   c .before .before .before .before .before .before .before .before .note-text .ensures,
 )
 
+returns : tie.Need-returns Inv-loop μ-loop
+returns c =
+    let e : c .before .loop .row ≡ c .before .before .before .before .before .before .before .before .args .count = omega arith in
+    rw e at (c .before .loop .inv .5)
+
 pub note-texts-spec : {M : Type 1} → statement M
 note-texts-spec =
     tie.close
@@ -34,7 +42,7 @@ note-texts-spec =
     Inv-loop
     μ-loop
     loop-holds
-    (λ c κs. search needs)
+    note-text-requires
     (λ c. search needs)
     (λ c. search needs)
     loop-again
@@ -42,4 +50,4 @@ note-texts-spec =
     (λ c. search needs)
     (λ c. search needs)
     (λ c. search needs)
-    (λ c. search needs))
+    returns)
