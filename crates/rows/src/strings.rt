@@ -1,7 +1,8 @@
 // Strings: parts of the byte pool.
 ghost use mathlib.Core.Path.{_≡_};
-ghost use Rattle.rows.specs.Strings.{textOf, inPool, isString, isFloatText, same};
-use crate::layout::both;
+ghost use Prim.Native.Nat.{_≤_, _<_};
+ghost use lib.ListN.{length};
+ghost use Rattle.rows.specs.Strings.{textOf, same};
 
 // Where a string stands in the pool.
 pub struct Text {
@@ -26,29 +27,38 @@ pub fn text_of(pool: &[u8], text: Text) -> &[u8]
     }
 }
 
-pub(crate) fn is_in_pool(pool: &[u8], text: Text) -> bool
-    ensures { λ r. ⌜ r ≡ inPool (now (pool .entry)) text ⌝ }
+// Whether two texts of one length are the same bytes. Every byte is looked at: a loop with no way out but its end is one that
+// the compiler makes take many bytes in a step.
+fn is_same_block(a: &[u8], b: &[u8]) -> bool
+    requires { ⌜ length (now a) ≡ length (now b) ⌝ }
+    ensures { λ r. ⌜ r ≡ same (now (a .entry)) (now (b .entry)) ⌝ }
 {
-    let end = (text.start as usize) + (text.len as usize);
-    end <= pool.len()
+    let mut agree = true;
+    let mut i: usize = 0;
+    while i < a.len() {
+        agree = agree & (a[i] == b[i]);
+        i += 1;
+    }
+    agree
 }
 
-pub(crate) fn is_string(pool: &[u8], text: Text) -> bool
-    ensures { λ r. ⌜ r ≡ isString (now (pool .entry)) text ⌝ }
+// The same by blocks of `size` bytes. The last one ends with the texts, and may overlap the one before it.
+fn is_same_by(a: &[u8], b: &[u8], size: usize) -> bool
+    requires { ⌜ length (now a) ≡ length (now b) ⌝ }
+    requires { ⌜ 0 < size ⌝ }
+    requires { ⌜ size ≤ length (now a) ⌝ }
+    ensures { λ r. ⌜ r ≡ same (now (a .entry)) (now (b .entry)) ⌝ }
 {
-    both(
-        is_in_pool(pool, text),
-        text::utf8::is_utf8(text_of(pool, text)),
-    )
-}
-
-pub(crate) fn is_float_text(pool: &[u8], text: Text) -> bool
-    ensures { λ r. ⌜ r ≡ isFloatText (now (pool .entry)) text ⌝ }
-{
-    both(
-        is_in_pool(pool, text),
-        text::numbers::is_float(text_of(pool, text)),
-    )
+    let mut i: usize = 0;
+    while size < a.len() - i {
+        let end = i + size;
+        if !is_same_block(&a[i..end], &b[i..end]) {
+            return false;
+        }
+        i = end;
+    }
+    let last = a.len() - size;
+    is_same_block(&a[last..], &b[last..])
 }
 
 // The same bytes.
@@ -58,12 +68,11 @@ pub fn is_same(a: &[u8], b: &[u8]) -> bool
     if a.len() != b.len() {
         return false;
     }
-    let mut i: usize = 0;
-    while i < a.len() {
-        if a[i] != b[i] {
-            return false;
-        }
-        i += 1;
+    if 16 <= a.len() {
+        return is_same_by(a, b, 16);
     }
-    true
+    if 4 <= a.len() {
+        return is_same_by(a, b, 4);
+    }
+    is_same_block(a, b)
 }
