@@ -40,7 +40,7 @@ walked false b' r e = absurd (omega arith)
 
 answer-is : (Q : Request) (text errors : ℕ) (c : Choices) → answer Q text errors c .code ≡ 0 → answer Q text errors c ≡ fitted text errors (walk Q c)
 unfolding answer
-answer-is Q text errors c e = walked (lawful (Q .tables) && lawfulBuffers text errors 0) (introspects (Q .tables .selections)) _ e
+answer-is Q text errors c e = walked (lawful (Q .tables) && lawfulBuffers text errors) (introspects (Q .tables .selections)) _ e
 
 stopped-not : (Q : Request) (c : Choices) (code : ℕ) (x : Res Data) → execute Q c ≡ x → ended x ≡ refusedWith code → code ≡ 0 → ⊥
 unfolding ended

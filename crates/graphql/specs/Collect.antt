@@ -16,7 +16,7 @@ use Rattle.rows.specs.declared.document.Condition.the-variants as condition
 use Rattle.rows.specs.declared.document.Selected.{Selected}
 use Rattle.rows.specs.declared.document.Selected.the-variants as selected
 use Rattle.rows.specs.declared.document.Selection.{Selection}
-use Rattle.graphql.specs.Outcome.{tooFar, tooManyFields, mostOpen, mostFields}
+use Rattle.graphql.specs.Outcome.{tooFar, tooManyFields, mostOpen, mostCollected}
 use Rattle.graphql.specs.Run.{M, pure, halt, when, _>>=_}
 use Rattle.graphql.specs.Lookup.{typeNamed, lists, fragmentNamed, variableNamed, selectionsOf, any}
 use Rattle.graphql.specs.Values.{NodeForm, isNull, isBool, isOther, nodeForm}
@@ -49,7 +49,7 @@ grouped key row (g ∷ gs) =
 -- Code 4: "a 129th field is collected for one set".
 unfoldable pub collectField : ℕ → ℕ → Collected → M Collected
 collectField key row c =
-    when (eqb (c .count) mostFields) (halt tooManyFields)
+    when (eqb (c .count) mostCollected) (halt tooManyFields)
     (pure (record { visited = c .visited; groups = grouped key row (c .groups); count = suc (c .count) }))
 
 -- a boolean, or what counts where there is no directive

@@ -5,8 +5,8 @@ use mathlib.Core.Bool.{Bool, true, false, not, cond, _&&_, _||_}
 use mathlib.Core.Option.{Option, none, some}
 use Prim.Native.Nat.{ℕ, zero, suc}
 use lib.Dec.{leb, eqb}
-use Rattle.rows.specs.Names.{nameText}
-use Rattle.rows.specs.Schema.{typeRefAt, typeAt, fieldAt, objectKind}
+use Rattle.rows.specs.Names.{nameText, 'typename, 'Int, 'Float, 'String, 'Boolean, 'ID}
+use Rattle.rows.specs.Schema.{typeRefAt, typeAt, fieldAt}
 use Rattle.rows.specs.Document.{selectionAt, fieldSelection}
 use Rattle.rows.specs.Answers.{answerAt}
 use Rattle.rows.specs.declared.layout.Range.{Range}
@@ -16,6 +16,7 @@ use Rattle.rows.specs.declared.schema.TypeKind.{TypeKind}
 use Rattle.rows.specs.declared.schema.TypeKind.the-variants as kind
 use Rattle.rows.specs.declared.answers.Answer.{Answer}
 use Rattle.rows.specs.declared.answers.Answer.the-variants as answer
+use Rattle.rules.specs.Schema.{objectKind}
 use Rattle.tables.specs.Tables.{Tables}
 use Rattle.graphql.specs.declared.errors.FieldError.{FieldError}
 use Rattle.graphql.specs.declared.errors.FieldError.the-variants as error
@@ -24,7 +25,7 @@ use Rattle.graphql.specs.Run.{Path, name, index, skipped, here, pastList
 use Rattle.graphql.specs.Json.{Json, null, string, containers, aNull, aBoolean, anInt, aLong, aFloat, aString, isA, stringOf}
 use Rattle.graphql.specs.Data.{Data, nulled, leaf, list, object, Val, absent, val, entries, fields}
 use Rattle.graphql.specs.Errors.{errorOf}
-use Rattle.graphql.specs.Lookup.{'typename, 'Int, 'Float, 'String, 'Boolean, 'ID, rowsIn, nonNull, typeNamed, lists, hasValue, fieldNamed, selectionsOf, fieldAnswer}
+use Rattle.graphql.specs.Lookup.{rowsIn, nonNull, typeNamed, lists, hasValue, fieldNamed, selectionsOf, fieldAnswer}
 use Rattle.graphql.specs.Collect.{Group, collect}
 use Rattle.graphql.specs.Values.{nodeValue}
 use Rattle.graphql.specs.Coerce.{Arguments, argumentNamed, coerceArgumentValues}

@@ -14,7 +14,8 @@ use Rattle.tables.specs.Tables.{Tables}
 use Rattle.tables.specs.Lawful.{lawful}
 use Rattle.graphql.specs.Outcome.{codeOf, mostOpen}
 use Rattle.graphql.specs.declared.outcome.Outcome.the-variants.{Answered, Unlawful, TooFar, TooDeep}
-use Rattle.graphql.specs.Lookup.{'fields, 'inputFields, fragmentNamed, selectionsOf}
+use Rattle.rows.specs.Names.{'fields, 'inputFields}
+use Rattle.graphql.specs.Lookup.{fragmentNamed, selectionsOf}
 
 -- the rise of each fragment that was met, by name
 abbrev pub Rises : Type 0

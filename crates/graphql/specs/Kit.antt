@@ -7,10 +7,9 @@ use lib.ListN.{length, getD}
 use lib.Dec.{eqb}
 use Rattle.rows.specs.Ascii.{ascii}
 use Rattle.rows.specs.Strings.{same}
-use Rattle.rows.specs.Names.{reserved}
+use Rattle.rows.specs.Names.{reserved, 'typename, 'Int, 'Float, 'String, 'Boolean, 'ID}
 use Rattle.tables.specs.Tables.{Tables}
 use Rattle.graphql.specs.Run.{Segment, name, index, Path, ErrorRecord, Choices}
-use Rattle.graphql.specs.Lookup.{'typename, 'Int, 'Float, 'String, 'Boolean, 'ID}
 use Rattle.graphql.specs.Request.{Request}
 use Rattle.graphql.specs.Report.{wordsOf, Report, report}
 use Rattle.graphql.specs.Depth.{DepthReport, depthReport}

@@ -19,44 +19,6 @@ use Rattle.rows.specs.declared.schema.TypeRef.the-variants as ref
 use Rattle.rows.specs.declared.answers.Answer.{Answer}
 use Rattle.rows.specs.declared.answers.Answer.the-variants as answer
 
--- ---- The reserved names that a rule speaks of, by their rows
-
-abbrev pub 'typename : ℕ
-'typename = 0
-
-abbrev pub 'Int : ℕ
-'Int = 1
-
-abbrev pub 'Float : ℕ
-'Float = 2
-
-abbrev pub 'String : ℕ
-'String = 3
-
-abbrev pub 'Boolean : ℕ
-'Boolean = 4
-
-abbrev pub 'ID : ℕ
-'ID = 5
-
-abbrev pub 'schema : ℕ
-'schema = 6
-
-abbrev pub 'type : ℕ
-'type = 7
-
-abbrev pub 'fields : ℕ
-'fields = 8
-
-abbrev pub 'interfaces : ℕ
-'interfaces = 9
-
-abbrev pub 'possibleTypes : ℕ
-'possibleTypes = 10
-
-abbrev pub 'inputFields : ℕ
-'inputFields = 11
-
 -- ---- Searching rows
 
 -- the rows first, first + 1, .., as many as count says

@@ -12,13 +12,14 @@ use Rattle.rows.specs.Rows.{rowsOf}
 use Rattle.rows.specs.Document.{selectionAt}
 use Rattle.rows.specs.declared.document.Selected.{Selected}
 use Rattle.rows.specs.declared.document.Selected.the-variants as selected
-use Rattle.tables.specs.Lawful.{lawful, lawfulBuffers}
+use Rattle.tables.specs.Lawful.{lawful, lawfulBuffers, lawfulChoices}
 use Rattle.graphql.specs.declared.outcome.Outcome.the-variants.{Answered, Unlawful, AsksForSchema, TextTooLong, RecordsTooLong}
 use Rattle.graphql.specs.declared.report.Reported.{Reported}
 use Rattle.graphql.specs.Outcome.{codeOf}
 use Rattle.graphql.specs.Run.{name, index, Path, ErrorRecord, Event, err, givenUp, skipped, Log, Choices, Res, stop, failed, done}
 use Rattle.graphql.specs.Data.{Data, nulled, printData}
-use Rattle.graphql.specs.Lookup.{'schema, 'type, rowsFrom, any}
+use Rattle.rows.specs.Names.{'schema, 'type}
+use Rattle.graphql.specs.Lookup.{rowsFrom, any}
 use Rattle.graphql.specs.Request.{Request}
 use Rattle.graphql.specs.Complete.{execute}
 
@@ -100,13 +101,13 @@ unfoldable pub answer : Request → (text errors : ℕ) → Choices → Report
 answer Q text errors choices =
     let walked = fitted text errors (walk Q choices) in
     let allowed = cond (introspects (Q .tables .selections)) (refused (codeOf AsksForSchema)) walked in
-    cond (lawful (Q .tables) && lawfulBuffers text errors 0) allowed (refused (codeOf Unlawful))
+    cond (lawful (Q .tables) && lawfulBuffers text errors) allowed (refused (codeOf Unlawful))
 
 -- "run in a given order": of choices there may be so many and no more
 unfoldable pub report : Request → (text errors : ℕ) → Choices → Report
 report Q text errors choices =
     let answered = answer Q text errors choices in
-    cond (leb (length choices) 4096) answered (refused (codeOf Unlawful))
+    cond (lawfulChoices (length choices)) answered (refused (codeOf Unlawful))
 
 -- "run in document order": with no choices each set takes its groups as they stand
 unfoldable pub reportInOrder : Request → (text errors : ℕ) → Report

@@ -3,7 +3,7 @@
 use mathlib.Core.List.{List, [], _∷_, _++_}
 use Prim.Native.Nat.{ℕ, zero, suc}
 use Prim.Native.String.{String}
-use Rattle.graphql.specs.Lookup.{'schema, 'fields, 'interfaces}
+use Rattle.rows.specs.Names.{'schema, 'fields, 'interfaces}
 use Rattle.graphql.specs.Kit.{'Query, 'f, 'Nope, 'F, 'G, Row, Kit, sets, selections, fragments, answers, selection, set, if-false, if-true, select, ask, askIn, spread, inline, inlineOn, fragment, objectAnswer, :Any, over, DepthCase}
 use Rattle.limits.specs.Runs.{inlineChain}
 

@@ -5,7 +5,7 @@ use Prim.Native.Nat.{ℕ, zero, suc, _+_}
 use Prim.Native.String.{String}
 use Rattle.rows.specs.Ascii.{ascii}
 use Rattle.graphql.specs.Run.{Segment, name, index, Path, Choices, ErrorRecord}
-use Rattle.graphql.specs.Lookup.{'typename, 'schema}
+use Rattle.rows.specs.Names.{'typename, 'schema}
 use Rattle.graphql.specs.Kit.{'Query, 'f, 'g, 'a, 'b, 'x, 'y, 'v, 'O, 'F, 'G, Row, Kit, refs, queries, arguments, sets, selections, given, fragments, nodes, literals, variables, answers, selection, literal, listOf, field, fieldWith, argument, argumentBy, set, if-true, select, ask, askIn, askWith, spread, inline, inlineOn, fragment, giving, nullLiteral, intLiteral, listLiteral, objectLiteral, variable, under, nullNode, wholeNumber, stringNode, arrayNode, skips, errs, leafOf, listAnswer, objectAnswer, echoes, :Int, :Int!, :[Int!], :String, :String!, :Any, :[Any], :O, :[O], :P, :Nope, ownRef, over, one, echo, echoDefault, v-is, Case, error, fFails, answered, refusedAt, refuses}
 
 module _ {A : Type 0} where
