@@ -3,6 +3,7 @@ pub mod Computing
 pub mod Cases
 pub mod Apart
 pub mod Told
+pub mod Views
 pub mod Determined
 pub mod Stable
 pub mod Order

@@ -1,4 +1,4 @@
--- CollectFields (October 2021, section 6.3.2), DoesFragmentTypeApply, skip and include (sections 3.13.1 and 3.13.2). Read it after Lookup.
+-- CollectFields (October 2021, section 6.3.2), DoesFragmentTypeApply, skip and include (sections 3.13.1 and 3.13.2). Read it after Values.
 use mathlib.Core.List.{List, [], _∷_, _++_}
 use mathlib.Core.Bool.{Bool, true, false, not, cond, _||_}
 use mathlib.Core.Option.{Option, none, some}

@@ -16,5 +16,6 @@ pub mod Kit
 pub mod Cases
 pub mod Apart
 pub mod Told
+pub mod Views
 pub mod Determined
 pub mod Demand3

@@ -1,4 +1,4 @@
--- "Codes handed back": how an entry ends, and its number.
+-- "Codes handed back": how an entry ends, and its number; and the limits of a walk. Read it after Errors.
 use Prim.Native.Nat.{ℕ}
 use Rattle.graphql.specs.declared.outcome.Outcome.{Outcome}
 use Rattle.graphql.specs.declared.outcome.Outcome.the-variants.{Answered, Unlawful, AsksForSchema, TooFar, TooManyFields, VariableInLiteral, TextTooLong, RecordsTooLong, TooDeep}
