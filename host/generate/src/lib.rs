@@ -12,6 +12,7 @@
 mod answers;
 mod depths;
 mod document;
+pub mod full;
 mod limits;
 mod random;
 mod schema;

@@ -2,7 +2,8 @@
 //! likes. Document 01's two examples, and both sides of each limit.
 
 use port::depths::{depth_checks, depth_checks_of_runs, Judge, Tally};
-use port::{depth_check, Depth};
+use port::depth_check;
+use reading::Depth;
 use tables::{notation, Tables};
 
 #[test]
