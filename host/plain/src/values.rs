@@ -3,6 +3,7 @@
 use crate::notes::{Apart, Closed, Met, Names, Noting, NotingNames};
 use crate::pool::{self, Strings};
 use crate::rows::{is_row, within, Rows};
+use std::ops::Range;
 use tables::layout::{answer_kind, value_kind, width};
 
 fn is_float(rows: &Rows<'_>, start: u32, length: u32) -> bool {
@@ -50,10 +51,32 @@ pub(crate) fn literals_are_lawful(
     true
 }
 
-/// The nodes that are children of objects lie between two rows.
+/// The rows between which all children of objects lie that have more than one.
+#[derive(Clone, Copy)]
 struct Children {
     first: u32,
     end: u32,
+}
+
+impl Children {
+    fn none() -> Self {
+        Children { first: u32::MAX, end: 0 }
+    }
+
+    fn are_none(self) -> bool {
+        self.end == 0
+    }
+
+    fn include(&mut self, first: u32, count: u32) {
+        if count > 1 {
+            self.first = self.first.min(first);
+            self.end = self.end.max(first + count);
+        }
+    }
+
+    fn rows(self) -> Range<usize> {
+        self.first as usize..self.end as usize
+    }
 }
 
 pub(crate) fn nodes_are_lawful(
@@ -61,10 +84,15 @@ pub(crate) fn nodes_are_lawful(
     strings: &impl Strings,
     apart: &mut Apart,
 ) -> bool {
-    let mut children = Children { first: u32::MAX, end: 0 };
+    let mut children = Children::none();
     for (row, &[kind, one, two, key, key_length]) in rows.nodes.iter().enumerate() {
+        if !strings.has(key, key_length) {
+            return false;
+        }
+        if kind <= value_kind::UNSIGNED {
+            continue;
+        }
         let fits = match kind {
-            value_kind::NULL | value_kind::FALSE | value_kind::TRUE | value_kind::UNSIGNED => true,
             value_kind::NEGATIVE => {
                 let magnitude = u64::from(two) << 32 | u64::from(one);
                 (1..=1 << 63).contains(&magnitude)
@@ -76,12 +104,11 @@ pub(crate) fn nodes_are_lawful(
             }
             _ => false,
         };
-        if !fits || !strings.has(key, key_length) {
+        if !fits {
             return false;
         }
-        if kind == value_kind::OBJECT && two > 1 {
-            children.first = children.first.min(one);
-            children.end = children.end.max(one + two);
+        if kind == value_kind::OBJECT {
+            children.include(one, two);
         }
     }
     keys_are_apart(rows, children, apart)
@@ -90,7 +117,7 @@ pub(crate) fn nodes_are_lawful(
 /// No object has two children of one key.
 fn keys_are_apart(rows: &Rows<'_>, children: Children, apart: &mut Apart) -> bool {
     // Fewer slots are sooner empty.
-    match children.end.saturating_sub(children.first) {
+    match children.rows().len() {
         0 => true,
         1..=64 => keys_are_apart_by::<128>(rows, children, apart),
         65..=512 => keys_are_apart_by::<1024>(rows, children, apart),
@@ -106,12 +133,12 @@ fn keys_are_apart_by<const SLOTS: usize>(
     let mut noting = Noting::new(apart);
     let mut met = Met::<SLOTS>::new();
     let key = |row: usize| [rows.nodes[row][3], rows.nodes[row][4]];
-    for row in (0..children.end as usize).rev() {
+    for row in (0..children.rows().end).rev() {
         let [kind, first, count, start, length]: [u32; width::NODES] = rows.nodes[row];
         if kind == value_kind::OBJECT && !noting.has(first, count) {
             return false;
         }
-        if row >= children.first as usize {
+        if row >= children.rows().start {
             let hash = pool::hash(rows.pool, start as usize, length as usize);
             let same = |other: usize| {
                 let other = key(other);
@@ -133,22 +160,39 @@ pub(crate) fn variables_are_lawful(rows: &Rows<'_>) -> bool {
 }
 
 pub(crate) fn answers_are_lawful(rows: &Rows<'_>, apart: &mut Apart) -> bool {
-    let mut noting = NotingNames::new(apart);
-    for (row, &[_, name, ..]) in rows.answers.iter().enumerate().rev() {
+    let mut children = Children::none();
+    for &[kind, name, one, two, three] in rows.answers {
         if !is_row(rows.names, name) {
             return false;
         }
-        noting.note(row, name);
-    }
-    let answer_is_lawful = |&[kind, _, one, two, three]: &[u32; width::ANSWERS]| match kind {
-        answer_kind::SKIP | answer_kind::ERROR => true,
-        answer_kind::LEAF => is_row(rows.nodes, one),
-        answer_kind::LIST => within(rows.answers, one, two),
-        answer_kind::OBJECT => {
-            is_row(rows.names, one) && within(rows.answers, two, three) && apart.has(two, three)
+        if kind == answer_kind::LEAF && is_row(rows.nodes, one) {
+            continue;
         }
-        answer_kind::ECHO => is_row(rows.names, one),
-        _ => false,
-    };
-    rows.answers.iter().all(answer_is_lawful) && rows.answers[0][0] == answer_kind::OBJECT
+        let fits = match kind {
+            answer_kind::SKIP | answer_kind::ERROR => true,
+            answer_kind::LIST => within(rows.answers, one, two),
+            answer_kind::OBJECT => is_row(rows.names, one) && within(rows.answers, two, three),
+            answer_kind::ECHO => is_row(rows.names, one),
+            _ => false,
+        };
+        if !fits {
+            return false;
+        }
+        if kind == answer_kind::OBJECT {
+            children.include(two, three);
+        }
+    }
+    rows.answers[0][0] == answer_kind::OBJECT
+        && (children.are_none() || answer_names_are_apart(rows, children, apart))
+}
+
+/// No object answers a field twice.
+fn answer_names_are_apart(rows: &Rows<'_>, children: Children, apart: &mut Apart) -> bool {
+    let mut noting = NotingNames::new(apart);
+    for row in children.rows().rev() {
+        noting.note(row, rows.answers[row][1]);
+    }
+    rows.answers.iter().all(|&[kind, _, _, first, count]| {
+        kind != answer_kind::OBJECT || apart.has(first, count)
+    })
 }

@@ -1,0 +1,118 @@
+//! Plain Rust's table check and the rules agree: on random tables as made and spoiled, on tables of full
+//! size, and where sets or arguments given are more than there are notes for.
+
+use generate::full::{self, Differ};
+use plain::table_check;
+use tables::layout::{selection_kind, width};
+use tables::{rules, Tables};
+
+/// Demands that both agree on the tables as they are and spoiled by each seed; says how many were
+/// refused.
+fn agrees(what: &str, tables: &Tables, seeds: std::ops::Range<u64>) -> usize {
+    let spoiled = seeds.map(|seed| (Some(seed), generate::spoiled(tables.clone(), seed)));
+    let mut refused = 0;
+    for (seed, tables) in std::iter::once((None, tables.clone())).chain(spoiled) {
+        let broken = rules::check(&tables);
+        let code = u32::from(broken.is_err());
+        assert_eq!(table_check(&tables), code, "{what}, spoiled by {seed:?}: {broken:?}");
+        refused += code as usize;
+    }
+    refused
+}
+
+#[test]
+fn on_random_tables() {
+    let refused: usize = (4_000_000..4_001_500)
+        .map(|seed| agrees("random", &generate::tables(seed), seed..seed + 1))
+        .sum();
+    assert!(refused > 700, "few are spoiled: {refused}");
+}
+
+#[test]
+fn on_tables_of_full_size() {
+    let mut shapes = full::shared_rows().to_vec();
+    shapes.extend([
+        ("plain", full::plain()),
+        ("early", full::long_names(Differ::Early)),
+        ("late", full::long_names(Differ::Late)),
+        ("keys", full::objects_that_share_keys(64)),
+        ("hash", full::one_object_of_keys_with_one_hash(300)),
+    ]);
+    for (what, tables) in shapes {
+        assert_eq!(rules::check(&tables), Ok(()), "{what}");
+        let refused = agrees(what, &tables, 0..30);
+        assert!(refused > 8, "{what}, few are spoiled: {refused}");
+    }
+}
+
+/// Where sets share selections, a child set is larger than every set that has its selection.
+#[test]
+fn on_shared_selections() {
+    let tables = full::document_that_unfolds(3, 31);
+    assert_eq!(table_check(&tables), 0);
+    assert!(agrees("unfolds", &tables, 0..3_000) > 500);
+}
+
+/// More than there are notes for.
+const FAR: u32 = 5_000;
+
+/// The same document, with all sets but the operation's far behind.
+fn far_sets(mut tables: Tables) -> Tables {
+    let others = tables.sets.split_off(width::SETS);
+    tables.sets.resize((FAR as usize + 1) * width::SETS, 0);
+    tables.sets.extend(others);
+    for row in tables.selections.chunks_exact_mut(width::SELECTIONS) {
+        let has_set = row[0] == selection_kind::INLINE || row[0] == selection_kind::FIELD;
+        if has_set && row[8] != 0 {
+            row[8] += FAR;
+        }
+    }
+    for row in tables.fragments.chunks_exact_mut(width::FRAGMENTS) {
+        row[2] += FAR;
+    }
+    tables
+}
+
+/// The same document, with all arguments given far behind others that nobody is given.
+fn far_given(mut tables: Tables) -> Tables {
+    let Some(row) = tables.given.first_chunk().copied() else { return tables };
+    let row: [u32; width::GIVEN] = row;
+    let mut given = row.repeat(FAR as usize);
+    given.append(&mut tables.given);
+    tables.given = given;
+    for row in tables.selections.chunks_exact_mut(width::SELECTIONS) {
+        if row[0] == selection_kind::FIELD {
+            row[6] += FAR;
+        }
+    }
+    tables
+}
+
+#[test]
+fn on_far_rows() {
+    let mut refused = 0;
+    for seed in 0..600 {
+        let sets = far_sets(generate::depth_tables(seed));
+        assert_eq!(rules::check(&sets), Ok(()), "{seed}");
+        refused += agrees("far sets", &sets, seed * 10..seed * 10 + 10);
+        let given = far_given(generate::tables(seed));
+        assert_eq!(rules::check(&given), Ok(()), "{seed}");
+        refused += agrees("far given", &given, seed * 10..seed * 10 + 2);
+    }
+    assert!(refused > 1_000, "few are spoiled: {refused}");
+}
+
+/// Two owners of one far set, which no mark is there for.
+#[test]
+fn a_far_set_has_one_owner() {
+    let mut tables = far_sets(full::document_that_unfolds(3, 4));
+    assert_eq!(table_check(&tables), 0);
+    tables.selections[8] = tables.selections[width::SELECTIONS + 8];
+    assert!(rules::check(&tables).is_err());
+    assert_eq!(table_check(&tables), 1);
+}
+
+#[test]
+fn nothing_is_unlawful() {
+    assert_eq!(table_check(&Tables::default()), 1);
+}
