@@ -34,7 +34,8 @@ impl Times {
 pub fn in_turns(calls: &[Call<'_>], patience: Duration) -> Vec<Times> {
     let mut order: Vec<usize> = (0..calls.len()).collect();
     let counts: Vec<usize> = calls.iter().map(|call| calls_a_turn(call)).collect();
-    let one_turn: Duration = calls.iter().zip(&counts).map(|(call, count)| turn(call, *count)).sum();
+    let one_turn: Duration =
+        calls.iter().zip(&counts).map(|(call, count)| turn(call, *count)).sum();
     let turns = patience.as_nanos() / one_turn.as_nanos().max(1);
     let turns = (turns as usize).clamp(FEWEST_TURNS, MOST_TURNS);
     let mut times = vec![Times::default(); calls.len()];
@@ -88,4 +89,29 @@ fn processor_time() -> Duration {
     let status = unsafe { clock_gettime(CLOCK_THREAD_CPUTIME_ID, &mut time) };
     assert_eq!(status, 0, "every thread has a clock");
     Duration::new(time.seconds as u64, time.nanoseconds as u32)
+}
+
+#[cfg(test)]
+mod tests {
+    use super::*;
+    use std::cell::Cell;
+
+    #[test]
+    fn both_take_part_in_every_turn() {
+        let work = |count: u64| (0..count).fold(0, |sum, step| std::hint::black_box(sum ^ step));
+        let asked = Cell::new([0, 0]);
+        let ask = |which: usize, count: u64| {
+            let mut both = asked.get();
+            both[which] += 1;
+            asked.set(both);
+            std::hint::black_box(work(count));
+        };
+        let (short, long) = (|| ask(0, 1_000), || ask(1, 20_000));
+        let times = in_turns(&[&short, &long], Duration::from_millis(5));
+        assert_eq!(times[0].turns(), times[1].turns());
+        assert!(times[0].turns() >= FEWEST_TURNS);
+        assert!(times.iter().all(|times| times.least() <= times.median()));
+        assert!(times[0].least() < times[1].least());
+        assert!(asked.get()[0] > asked.get()[1]);
+    }
 }

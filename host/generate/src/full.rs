@@ -123,6 +123,20 @@ pub fn one_object_of_keys_with_one_hash(keys: usize) -> Tables {
     tables
 }
 
+/// One object of these keys. What node is left has an empty key.
+pub fn one_object_of(keys: &[Vec<u8>]) -> Tables {
+    let mut tables = plain();
+    tables.nodes = [value_kind::NULL, 0, 0, 0, 0].repeat(limit::NODES);
+    let mut start = NAMES_END;
+    for (key, row) in keys.iter().zip(tables.nodes.chunks_exact_mut(width::NODES).skip(1)) {
+        tables.pool[start..start + key.len()].copy_from_slice(key);
+        row[3..].copy_from_slice(&[word(start), word(key.len())]);
+        start += key.len();
+    }
+    make_objects(&mut tables, 1, keys.len());
+    tables
+}
+
 /// How long so many of these keys can be.
 pub fn key_with_one_hash(keys: usize) -> usize {
     limit::POOL - NAMES_END - 3 * (keys - 1)
@@ -194,6 +208,17 @@ pub fn selections_that_share_arguments() -> Tables {
     for row in tables.selections.chunks_exact_mut(width::SELECTIONS) {
         row[6..8].copy_from_slice(&[0, word(limit::NAMES)]);
     }
+    tables
+}
+
+/// So many sets, each of all selections. There is no limit to sets.
+pub fn sets_that_share_selections(sets: usize) -> Tables {
+    let mut tables = plain();
+    for row in tables.selections.chunks_exact_mut(width::SELECTIONS) {
+        row[8] = 0;
+    }
+    tables.fragments.clear();
+    tables.sets = [0, word(limit::SELECTIONS)].repeat(sets);
     tables
 }
 

@@ -67,7 +67,8 @@ pub fn wide() -> Tables {
 /// 100 chains of 26 objects: paths of 28 levels.
 pub fn deep() -> Tables {
     let levels = 25;
-    let chain = |open: &str, end: &str| format!("{}{end}{}", open.repeat(levels), "}".repeat(levels));
+    let chain =
+        |open: &str, end: &str| format!("{}{end}{}", open.repeat(levels), "}".repeat(levels));
     let document = format!("{{ l {{ {} }} }}", chain("t { ", "v"));
     let items = many(100, |number| format!("T{{ {} }}", chain("t: T{ ", &format!("v: {number}"))));
     let schema = "type Q { l: [T] }  type T { t: T  v: Int }";
@@ -110,5 +111,10 @@ pub fn coerced() -> Tables {
         write!(document, "k{number}: f(x: {x}, y: {number}) ").expect("a string takes all");
     }
     answers += "f: echo x";
-    notation::tables(schema, &format!("{{ {document} }}"), "{\"v\": 7}", &format!("{{ {answers} }}"))
+    notation::tables(
+        schema,
+        &format!("{{ {document} }}"),
+        "{\"v\": 7}",
+        &format!("{{ {answers} }}"),
+    )
 }

@@ -35,6 +35,7 @@ fn full_tables() {
     for (what, tables) in full::shared_rows() {
         demand_lawful(what, &tables);
     }
+    demand_lawful("sets", &full::sets_that_share_selections(100));
     for differ in [Differ::Early, Differ::Late] {
         let tables = full::long_names(differ);
         demand_lawful("long names", &tables);
@@ -44,7 +45,10 @@ fn full_tables() {
     for stray in [true, false] {
         let tables = full::overlapping_texts(stray);
         assert_eq!(std::str::from_utf8(&tables.pool).is_err(), stray);
-        demand_lawful("overlapping texts", &Tables { nodes: tables.nodes[..20].into(), ..small(&tables) });
+        demand_lawful(
+            "overlapping texts",
+            &Tables { nodes: tables.nodes[..20].into(), ..small(&tables) },
+        );
     }
 }
 

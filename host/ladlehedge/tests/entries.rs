@@ -4,9 +4,8 @@ use ladlehedge::{depth_check, table_check, Refusal, Tables};
 
 const POOL: &[u8] = b"__typenameIntFloatStringBooleanID__schema__typefieldsinterfaces\
     possibleTypesinputFieldsQuery";
-const NAMES: &[u32] = &[
-    0, 10, 10, 3, 13, 5, 18, 6, 24, 7, 31, 2, 33, 8, 41, 6, 47, 6, 53, 10, 63, 13, 76, 11, 87, 5,
-];
+const NAMES: &[u32] =
+    &[0, 10, 10, 3, 13, 5, 18, 6, 24, 7, 31, 2, 33, 8, 41, 6, 47, 6, 53, 10, 63, 13, 76, 11, 87, 5];
 const FIELDS: u32 = 8;
 const QUERY: u32 = 12;
 const INLINE: u32 = 2;

@@ -3,13 +3,14 @@
 //! No heap and no unsafe code; indices are tested. So far there is the table check.
 //!
 //! * [`rows`]: the tables as rows of their width, where their sizes are lawful.
-//! * [`pool`]: strings, names and floats in the pool, and their hashes.
+//! * [`pool`]: strings, names and floats in the pool; [`hash`]: how they are told apart.
 //! * [`notes`]: which names or strings were met before, and up to where rows are apart.
 //! * [`schema`], [`document`], [`values`]: document 01's rules, one loop a table.
 
 #![forbid(unsafe_code)]
 
 mod document;
+pub mod hash;
 mod notes;
 mod pool;
 mod rows;

@@ -1,5 +1,6 @@
 //! Strings, names and floats in the pool.
 
+use crate::hash::{eight_at, first_bytes, mix};
 use crate::notes::Met;
 use std::str;
 use tables::layout::{limit, width, RESERVED};
@@ -14,7 +15,8 @@ pub(crate) struct Ascii {
     pub length: usize,
 }
 
-/// A pool that is UTF-8 as a whole: a part is where both ends stand between characters.
+/// A pool that is UTF-8 as a whole: a part is a string where both ends stand between characters, or where
+/// it is empty.
 pub(crate) struct Utf8<'t> {
     pub text: &'t str,
 }
@@ -36,8 +38,10 @@ impl Strings for Ascii {
 
 impl Strings for Utf8<'_> {
     fn has(&self, start: u32, length: u32) -> bool {
-        // The end is a boundary only where it is in the text.
-        self.text.is_char_boundary(end(start, length)) && self.text.is_char_boundary(start as usize)
+        let (start, end) = (start as usize, end(start, length));
+        // An end is a boundary only where it is in the text.
+        self.text.is_char_boundary(end) && self.text.is_char_boundary(start)
+            || start == end && end <= self.text.len()
     }
 }
 
@@ -51,57 +55,6 @@ impl Strings for Mixed<'_> {
 /// The same byte eight times.
 const fn eight(byte: u8) -> u64 {
     u64::from_le_bytes([byte; 8])
-}
-
-/// Eight bytes of the pool, with zeros for those behind its end.
-fn eight_at(pool: &[u8], at: usize) -> u64 {
-    match pool[at..].first_chunk() {
-        Some(bytes) => u64::from_le_bytes(*bytes),
-        None => pool[at..].iter().rev().fold(0, |word, byte| word << 8 | u64::from(*byte)),
-    }
-}
-
-/// The bits of the first so many bytes of eight, which are at least one.
-fn first_bytes(count: usize) -> u64 {
-    u64::MAX >> (64 - 8 * count.min(8))
-}
-
-const FACTOR: u64 = 0x9e37_79b9_7f4a_7c15;
-
-fn mix(hash: u64, word: u64) -> u64 {
-    (hash.rotate_left(23) ^ word).wrapping_mul(FACTOR)
-}
-
-/// Bytes that are hashed side by side where a string is long.
-const STRIDE: usize = 32;
-
-/// A hash of a part of the pool.
-pub(crate) fn hash(pool: &[u8], start: usize, length: usize) -> u64 {
-    let mut hash = length as u64;
-    let mut at = start;
-    let end = start + length;
-    if length >= 2 * STRIDE {
-        let (strides, rest) = pool[start..end].as_chunks::<STRIDE>();
-        hash = long_hash(strides, hash);
-        at = end - rest.len();
-    }
-    while at < end {
-        hash = mix(hash, eight_at(pool, at) & first_bytes(end - at));
-        at += 8;
-    }
-    hash
-}
-
-/// Four hashes, one for every fourth word, so that none has to wait for the last.
-fn long_hash(strides: &[[u8; STRIDE]], seed: u64) -> u64 {
-    let mut lanes = [seed; 4];
-    for stride in strides {
-        let (words, _) = stride.as_chunks();
-        for (lane, word) in lanes.iter_mut().zip(words) {
-            *lane = mix(*lane, u64::from_le_bytes(*word));
-        }
-    }
-    lanes.into_iter().fold(seed, mix)
 }
 
 /// Whether eight bytes are all letters, digits or underscores.

@@ -59,7 +59,8 @@ pub(crate) fn fields_are_lawful(
 
 pub(crate) fn types_are_lawful(rows: &Rows<'_>, fields: &Apart) -> bool {
     let mut names = Names::new();
-    let mut type_is_lawful = |&[name, kind, field, field_count, member, member_count]: &[u32; 6]| {
+    let mut type_is_lawful = |&[name, kind, field, field_count, member, member_count]: &[u32;
+                                   6]| {
         is_row(rows.names, name)
             && names.add(name)
             && (field_count == 0 || may_have_fields(kind))

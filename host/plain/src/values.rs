@@ -1,5 +1,6 @@
 //! The rules for literals, JSON nodes, variables and answers.
 
+use crate::hash::hash;
 use crate::notes::{Apart, Closed, Met, Names, Noting, NotingNames};
 use crate::pool::{self, Strings};
 use crate::rows::{is_row, within, Rows};
@@ -79,16 +80,13 @@ impl Children {
     }
 }
 
-pub(crate) fn nodes_are_lawful(
-    rows: &Rows<'_>,
-    strings: &impl Strings,
-    apart: &mut Apart,
-) -> bool {
+pub(crate) fn nodes_are_lawful(rows: &Rows<'_>, strings: &impl Strings, apart: &mut Apart) -> bool {
     let mut children = Children::none();
     for (row, &[kind, one, two, key, key_length]) in rows.nodes.iter().enumerate() {
         if !strings.has(key, key_length) {
             return false;
         }
+        // Most nodes; so they need no jump by their kind.
         if kind <= value_kind::UNSIGNED {
             continue;
         }
@@ -139,13 +137,13 @@ fn keys_are_apart_by<const SLOTS: usize>(
             return false;
         }
         if row >= children.rows().start {
-            let hash = pool::hash(rows.pool, start as usize, length as usize);
+            let key_hash = hash(rows.pool, start as usize, length as usize);
             let same = |other: usize| {
                 let other = key(other);
                 other == [start, length]
                     || pool::part(rows.pool, other) == pool::part(rows.pool, [start, length])
             };
-            let next = met.meet(row, hash, same);
+            let next = met.meet(row, key_hash, same);
             noting.note(row, next.map_or(u16::MAX, |next| next as u16));
         }
     }
@@ -165,6 +163,7 @@ pub(crate) fn answers_are_lawful(rows: &Rows<'_>, apart: &mut Apart) -> bool {
         if !is_row(rows.names, name) {
             return false;
         }
+        // Most answers; so they need no jump by their kind.
         if kind == answer_kind::LEAF && is_row(rows.nodes, one) {
             continue;
         }
@@ -192,7 +191,7 @@ fn answer_names_are_apart(rows: &Rows<'_>, children: Children, apart: &mut Apart
     for row in children.rows().rev() {
         noting.note(row, rows.answers[row][1]);
     }
-    rows.answers.iter().all(|&[kind, _, _, first, count]| {
-        kind != answer_kind::OBJECT || apart.has(first, count)
-    })
+    rows.answers
+        .iter()
+        .all(|&[kind, _, _, first, count]| kind != answer_kind::OBJECT || apart.has(first, count))
 }

@@ -4,7 +4,7 @@
 use generate::full::{self, Differ};
 use plain::table_check;
 use tables::layout::{selection_kind, width};
-use tables::{rules, Tables};
+use tables::{notation, rules, Tables};
 
 /// Demands that both agree on the tables as they are and spoiled by each seed; says how many were
 /// refused.
@@ -110,6 +110,25 @@ fn a_far_set_has_one_owner() {
     tables.selections[8] = tables.selections[width::SELECTIONS + 8];
     assert!(rules::check(&tables).is_err());
     assert_eq!(table_check(&tables), 1);
+}
+
+/// An empty string is one also within a character, and no other is.
+#[test]
+fn strings_within_a_character() {
+    let mut tables = notation::tables("type Q { f: String }", "{ f }", "", "{ f: \"aé\" }");
+    let end = tables.pool.len() as u32;
+    for (start, length, code) in [
+        (end - 1, 0, 0),
+        (end, 0, 0),
+        (end + 1, 0, 1),
+        (end - 1, 1, 1),
+        (end - 2, 1, 1),
+        (end - 2, 2, 0),
+    ] {
+        tables.nodes[1..3].copy_from_slice(&[start, length]);
+        assert_eq!(u32::from(rules::check(&tables).is_err()), code, "{start} {length}");
+        assert_eq!(table_check(&tables), code, "{start} {length}");
+    }
 }
 
 #[test]
