@@ -6,8 +6,8 @@
 //! * [`depth_check`]: how deep the operation nests lists.
 //!
 //! Any bytes and any words may be lent, lawful or not. An entry keeps nothing, writes nowhere, has no
-//! state and takes nothing from a heap; several threads may call at once. It ends on every input,
-//! though not always soon: docs/LINKING.md says which lawful tables take long.
+//! state and takes nothing from a heap; several threads may call at once. It ends on every input, though
+//! not always soon: docs/LINKING.md says which tables take long.
 //!
 //! ```
 //! use ladlehedge::{depth_check, table_check, Refusal, Tables};
@@ -66,8 +66,11 @@ pub struct Tables<'a> {
 impl<'a> Tables<'a> {
     /// The pool, the fourteen tables of words in the order in which they stand above, and the root.
     pub fn in_order(pool: &'a [u8], words: [&'a [u32]; 14], root: u32) -> Self {
-        let [names, type_refs, types, members, fields, arguments, sets, selections, given, fragments, nodes, literals, variables, answers] =
-            words;
+        #[rustfmt::skip]
+        let [
+            names, type_refs, types, members, fields, arguments, sets,
+            selections, given, fragments, nodes, literals, variables, answers,
+        ] = words;
         Tables {
             pool,
             names,
@@ -97,8 +100,7 @@ pub enum Refusal {
     Unlawful,
     /// Code 3, of a depth check: 33 open sets are reached.
     TooFar,
-    /// Code 8, of a depth check: a third counted field within two others, or a fragment met again
-    /// that would reach as deep. The place is that of the selection.
+    /// Code 8, of a depth check: too deep. The place is that of the field or of the spread.
     TooDeep { place: u32 },
 }
 
