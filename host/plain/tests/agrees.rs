@@ -1,10 +1,12 @@
-//! Plain Rust's table check and the rules agree: on random tables as made and spoiled, on tables of full
-//! size, and where sets or arguments given are more than there are notes for.
+//! Plain Rust's table check and the rules agree: on the stored table files, on random tables as made and
+//! spoiled, on tables of full size, and where sets or arguments given are more than there are notes for.
 
 use generate::full::{self, Differ};
 use plain::table_check;
+use std::fs;
+use std::path::Path;
 use tables::layout::{selection_kind, width};
-use tables::{notation, rules, Tables};
+use tables::{file, notation, rules, Tables};
 
 /// Demands that both agree on the tables as they are and spoiled by each seed; says how many were
 /// refused.
@@ -43,6 +45,22 @@ fn on_tables_of_full_size() {
         let refused = agrees(what, &tables, 0..30);
         assert!(refused > 8, "{what}, few are spoiled: {refused}");
     }
+}
+
+/// The table files on either side of each rule, where they lie in the repository.
+#[test]
+fn on_the_stored_files() {
+    let folder = Path::new(env!("CARGO_MANIFEST_DIR")).join("../../crates/ladle/data");
+    let mut counts = [0, 0];
+    for entry in fs::read_dir(folder).expect("a folder of table files") {
+        let path = entry.expect("a file").path();
+        let Ok(tables) = file::read(fs::read(&path).expect("a file's text")) else { continue };
+        let broken = rules::check(&tables);
+        let code = u32::from(broken.is_err());
+        assert_eq!(table_check(&tables), code, "{}: {broken:?}", path.display());
+        counts[code as usize] += 1;
+    }
+    assert!(counts[0] > 100 && counts[1] > 100, "{counts:?}");
 }
 
 /// Where sets share selections, a child set is larger than every set that has its selection.
