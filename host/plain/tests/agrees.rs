@@ -130,6 +130,30 @@ fn a_far_set_has_one_owner() {
     assert_eq!(table_check(&tables), 1);
 }
 
+/// Two arguments of one name far behind, which no note is there for.
+#[test]
+fn far_arguments_have_distinct_names() {
+    let schema = "type Q { f(x: Int, y: Int): Int }";
+    let mut tables = far_given(notation::tables(schema, "{ f(x: 1, y: 2) }", "", "{ }"));
+    assert_eq!(table_check(&tables), 0);
+    let [first, second] = [FAR as usize, FAR as usize + 1].map(|row| row * width::GIVEN);
+    tables.given[second] = tables.given[first];
+    assert!(rules::check(&tables).is_err());
+    assert_eq!(table_check(&tables), 1);
+}
+
+/// Set 2 has a selection whose child set is 1. Set 3 has the selection before it and not that one.
+#[test]
+fn a_child_set_is_larger_than_a_set_that_nobody_owns() {
+    let mut tables = notation::tables("type Q { f: Int }", "{ f ... { } }", "", "{ }");
+    tables.sets = vec![1, 1, 0, 0, 0, 1, 0, 1];
+    assert_eq!(rules::check(&tables), Ok(()));
+    assert_eq!(table_check(&tables), 0);
+    tables.sets[5] = 2;
+    assert!(rules::check(&tables).is_err());
+    assert_eq!(table_check(&tables), 1);
+}
+
 /// An empty string is one also within a character, and no other is.
 #[test]
 fn strings_within_a_character() {
