@@ -76,7 +76,7 @@ fn a_small_document_unfolds() {
     let tables = full::document_that_unfolds(3, limit::OPEN - 1);
     demand_lawful("unfolds", &tables);
     let words: usize = tables.word_tables().iter().map(|(_, _, words)| words.len()).sum();
-    println!("{} bytes", tables.pool.len() + 4 * words);
+    assert_eq!(tables.pool.len() + 4 * words, 4_708);
     // Set 0 and three more in each of 31 levels.
     assert_eq!(tables.sets.len(), 2 * (1 + 3 * 31));
     assert_eq!(full::sets_unfolded(3, 31), 926_510_094_425_920);
