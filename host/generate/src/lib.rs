@@ -5,14 +5,17 @@
 //! The others go to one of the limits and stand on either side of it. Of a third of all cases some
 //! words are changed in the tables themselves.
 //!
-//! [`depth_tables`] are small and made for depth checks alone.
+//! [`depth_tables`] are small and made for depth checks alone. Not by a seed, for measuring: [`ordinary`]
+//! tables, and [`full`] ones.
 //!
 //! All tables but [`spoiled_tables`] obey document 01's rules; they need not be valid GraphQL.
 
 mod answers;
 mod depths;
 mod document;
+pub mod full;
 mod limits;
+pub mod ordinary;
 mod random;
 mod schema;
 mod shuffle;
@@ -35,7 +38,11 @@ pub fn tables(seed: u64) -> Tables {
 
 /// The tables of a seed with something changed that may break a rule or not: for the table check.
 pub fn spoiled_tables(seed: u64) -> Tables {
-    let mut tables = tables(seed);
+    spoiled(tables(seed), seed)
+}
+
+/// Tables with something changed, by a seed, that may break a rule or not.
+pub fn spoiled(mut tables: Tables, seed: u64) -> Tables {
     twist::spoil(&mut tables, &mut Random::new(!seed.rotate_left(16)));
     tables
 }

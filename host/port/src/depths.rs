@@ -1,7 +1,7 @@
 //! The port's depth check against the oracle, where that has an answer, and against the reading,
 //! which always has one. Each answer is counted under who judged it.
 
-use crate::{depth_check, Depth};
+use crate::depth_check;
 use oracle::judge::{self, CannotJudge};
 use std::collections::BTreeMap;
 use std::fmt;
@@ -81,10 +81,10 @@ impl Tally {
     /// Asks the port and the judges.
     pub fn compare(&mut self, tables: &Tables, what: impl FnOnce() -> String) {
         let answer = depth_check(tables);
-        let read = Depth::from(reading::depth(tables));
+        let read = reading::depth(tables);
         let asked = judge::depth(tables);
         let (judge, agrees) = match &asked {
-            Ok(judged) => (Judge::Oracle, answer == reading::Depth::from(*judged).into()),
+            Ok(judged) => (Judge::Oracle, answer == (*judged).into()),
             Err(CannotJudge::Rule(_)) => (Judge::RulesAlone, true),
             Err(CannotJudge::OpenSets | CannotJudge::Size) => (Judge::ReadingAlone, true),
             Err(_) => (Judge::ReadingAlone, false),
@@ -94,12 +94,5 @@ impl Tally {
             let differs = format!("port {answer:?}, oracle {asked:?}, reading {read:?}");
             self.differences.push(format!("{}: {differs}", what()));
         }
-    }
-}
-
-impl From<reading::Depth> for Depth {
-    fn from(read: reading::Depth) -> Self {
-        let reading::Depth { code, depth, place } = read;
-        Depth { code, depth, place }
     }
 }

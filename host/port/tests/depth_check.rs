@@ -1,8 +1,9 @@
 //! The port's depth check and the judges agree on some seeds; `port_depth` asks about as many as one
 //! likes. Document 01's two examples, and both sides of each limit.
 
+use port::depth_check;
 use port::depths::{depth_checks, depth_checks_of_runs, Judge, Tally};
-use port::{depth_check, Depth};
+use reading::Depth;
 use tables::{notation, Tables};
 
 #[test]

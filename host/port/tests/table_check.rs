@@ -1,8 +1,9 @@
-//! The port's table check and the rules agree on some seeds; `port_check` asks about as many as one
-//! likes.
+//! The port's table check, plain Rust's and the rules agree on some seeds; `port_check` asks about as
+//! many as one likes.
 
 use port::compare::table_checks;
-use port::{table_check, LAWFUL, UNLAWFUL};
+use port::table_check;
+use reading::code::{ANSWERED, RULE};
 use tables::Tables;
 
 #[test]
@@ -19,22 +20,22 @@ fn agrees_with_the_rules() {
 #[test]
 fn every_table_is_looked_at() {
     let lawful = generate::tables(1);
-    assert_eq!(table_check(&lawful), LAWFUL);
+    assert_eq!(table_check(&lawful), ANSWERED);
     for number in 0..lawful.word_tables().len() {
         let mut tables = lawful.clone();
         let (name, width, ref mut table) = tables.word_tables_mut()[number];
         // An end within a row; where a row is one word, a row that names nothing.
         table.extend(std::iter::repeat_n(u32::MAX, if width == 1 { 1 } else { width + 1 }));
-        assert_eq!(table_check(&tables), UNLAWFUL, "{name}");
+        assert_eq!(table_check(&tables), RULE, "{name}");
     }
     let long_pool = Tables { pool: vec![0; 65_537], ..lawful.clone() };
-    assert_eq!(table_check(&long_pool), UNLAWFUL);
+    assert_eq!(table_check(&long_pool), RULE);
     let no_root = Tables { root: u32::MAX, ..lawful };
-    assert_eq!(table_check(&no_root), UNLAWFUL);
+    assert_eq!(table_check(&no_root), RULE);
 }
 
 /// Nothing at all can be lent; an empty vector has a pointer as well.
 #[test]
 fn empty_tables_are_unlawful() {
-    assert_eq!(table_check(&Tables::default()), UNLAWFUL);
+    assert_eq!(table_check(&Tables::default()), RULE);
 }

@@ -20,7 +20,9 @@ fn main() {
     let folder = Path::new(folder);
     let mut expected = String::new();
     for seed in first..first + count {
-        for (kind, tables) in [("lawful", generate::tables(seed)), ("spoiled", generate::spoiled_tables(seed))] {
+        for (kind, tables) in
+            [("lawful", generate::tables(seed)), ("spoiled", generate::spoiled_tables(seed))]
+        {
             let name = format!("{seed}-{kind}.tables");
             let path = folder.join(&name);
             let text = file::write(&tables);

@@ -1,10 +1,10 @@
 //! Lawful tables of full size: those with a limit stand at it, but in the document that unfolds, which
 //! is small. For measuring, so plain but for what a shape is about. Some are what an enemy would send:
-//! rows that are shared as often as they can be, keys whose hashes are equal.
+//! rows that are shared as often as they can be, keys whose hashes are equal, long texts that overlap.
 
 use tables::layout::{answer_kind, limit, selection_kind, type_kind, value_kind, width};
 use tables::layout::{DEPTH_FIELDS, RESERVED};
-use tables::Tables;
+use tables::{notation, Tables};
 
 /// Bytes of a short key: as many hexadecimal digits as number all nodes.
 const SHORT_KEY: usize = 4;
@@ -27,6 +27,47 @@ pub fn plain() -> Tables {
     add_schema(&mut tables);
     add_document(&mut tables);
     add_answers(&mut tables);
+    tables
+}
+
+/// Where in a long name the names differ.
+#[derive(Debug, Clone, Copy)]
+pub enum Differ {
+    Early,
+    Late,
+}
+
+/// All names that are not reserved have the most bytes that a name may have.
+pub fn long_names(differ: Differ) -> Tables {
+    let mut tables = plain();
+    let mut start = NAMES_END + SHORT_KEY * limit::NODES;
+    for number in FIRST_NAME..limit::NAMES {
+        let name = match differ {
+            Differ::Early => format!("n{number:03}{:a<60}", ""),
+            Differ::Late => format!("{:a<60}n{number:03}", ""),
+        };
+        tables.pool[start..start + name.len()].copy_from_slice(name.as_bytes());
+        tables.names[number * width::NAMES] = word(start);
+        tables.names[number * width::NAMES + 1] = word(name.len());
+        start += name.len();
+    }
+    tables
+}
+
+/// Bytes of a text that overlaps all others: each begins a character behind the last.
+pub const OVERLAPPING: usize = limit::POOL - NAMES_END - 2 * limit::NODES;
+
+/// All texts and keys are as long as the pool allows and of characters of two bytes. With a stray byte
+/// in the pool, which no string has, the pool is not UTF-8 as a whole.
+pub fn overlapping_texts(stray: bool) -> Tables {
+    let mut tables = plain();
+    for character in tables.pool[NAMES_END..].chunks_exact_mut(2) {
+        character.copy_from_slice("é".as_bytes());
+    }
+    if stray {
+        tables.pool[NAMES_END - 1] = 0x80;
+    }
+    tables.nodes = nodes(NAMES_END, 2, OVERLAPPING);
     tables
 }
 
@@ -82,6 +123,20 @@ pub fn one_object_of_keys_with_one_hash(keys: usize) -> Tables {
     tables
 }
 
+/// One object of these keys. What node is left has an empty key.
+pub fn one_object_of(keys: &[Vec<u8>]) -> Tables {
+    let mut tables = plain();
+    tables.nodes = [value_kind::NULL, 0, 0, 0, 0].repeat(limit::NODES);
+    let mut start = NAMES_END;
+    for (key, row) in keys.iter().zip(tables.nodes.chunks_exact_mut(width::NODES).skip(1)) {
+        tables.pool[start..start + key.len()].copy_from_slice(key);
+        row[3..].copy_from_slice(&[word(start), word(key.len())]);
+        start += key.len();
+    }
+    make_objects(&mut tables, 1, keys.len());
+    tables
+}
+
 /// How long so many of these keys can be.
 pub fn key_with_one_hash(keys: usize) -> usize {
     limit::POOL - NAMES_END - 3 * (keys - 1)
@@ -94,6 +149,17 @@ fn bytes_with_the_hash_of_aaa() -> [u8; 3] {
     let mut triples = pairs.flat_map(|(one, two)| bytes.clone().map(move |last| [one, two, last]));
     let found = triples.find(|triple| triple[0] != b'a' && hash(triple) == hash(b"aaa"));
     found.expect("there are more triples than hashes")
+}
+
+/// The tables in which rows are shared as often as they can be.
+pub fn shared_rows() -> [(&'static str, Tables); 5] {
+    [
+        ("types", types_that_share_fields()),
+        ("fields", fields_that_share_arguments()),
+        ("selections", selections_that_share_arguments()),
+        ("literals", literals_that_share_keys()),
+        ("answers", answers_that_share_children()),
+    ]
 }
 
 /// Every answer is an object of the same children, one for each name.
@@ -142,6 +208,17 @@ pub fn selections_that_share_arguments() -> Tables {
     for row in tables.selections.chunks_exact_mut(width::SELECTIONS) {
         row[6..8].copy_from_slice(&[0, word(limit::NAMES)]);
     }
+    tables
+}
+
+/// So many sets, each of all selections. There is no limit to sets.
+pub fn sets_that_share_selections(sets: usize) -> Tables {
+    let mut tables = plain();
+    for row in tables.selections.chunks_exact_mut(width::SELECTIONS) {
+        row[8] = 0;
+    }
+    tables.fragments.clear();
+    tables.sets = [0, word(limit::SELECTIONS)].repeat(sets);
     tables
 }
 
@@ -199,21 +276,25 @@ pub fn deep_document() -> Tables {
     tables
 }
 
-/// A document whose sets share selections: in each of so many levels there are two selections, and
-/// both lead to a set of the next two. A depth check goes through twice as many sets in each.
-pub fn document_that_unfolds(levels: usize) -> Tables {
-    let mut tables = plain();
-    tables.sets = vec![0, 2];
-    tables.selections.clear();
-    tables.fragments.clear();
-    for level in 0..levels {
-        let next = if level + 1 < levels { [word(2 * level + 2), 2] } else { [0, 0] };
-        for child in [2 * level + 1, 2 * level + 2] {
-            tables.selections.extend(selection(selection_kind::INLINE, 0, word(child)));
+/// A document whose sets share selections, in small tables: in each of so many levels below the
+/// operation there are so many selections, all of which lead to a set of all the next ones. A depth
+/// check goes through as many times more sets in each level.
+pub fn document_that_unfolds(across: usize, levels: usize) -> Tables {
+    let mut tables = notation::tables("bare type Q { }", "{ }", "", "{ }");
+    tables.sets = vec![0, word(across)];
+    for level in 1..=levels {
+        let next = if level < levels { [word(across * level), word(across)] } else { [0, 0] };
+        for child in across * (level - 1)..across * level {
+            tables.selections.extend(selection(selection_kind::INLINE, 0, word(child + 1)));
             tables.sets.extend(next);
         }
     }
     tables
+}
+
+/// How many sets a depth check of such a document goes through.
+pub fn sets_unfolded(across: u64, levels: u32) -> u64 {
+    (0..=levels).map(|level| across.pow(level)).sum()
 }
 
 /// A selection of a kind, with the words 4 and 8.
