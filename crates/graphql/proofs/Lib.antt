@@ -2,7 +2,7 @@
 pub mod Computing
 pub mod Cases
 pub mod Apart
-pub mod Told
+pub mod Account
 pub mod Views
 pub mod Determined
 pub mod Stable

@@ -15,7 +15,7 @@ pub mod Depth
 pub mod Kit
 pub mod Cases
 pub mod Apart
-pub mod Told
+pub mod Account
 pub mod Views
 pub mod Determined
 pub mod Demand3

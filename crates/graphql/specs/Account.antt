@@ -11,7 +11,7 @@ use Rattle.graphql.specs.Kit.{'f, 'b, 'O, Kit, queries, sets, selections
 use Rattle.graphql.specs.Kit as kit
 use Rattle.graphql.specs.Cases.{B, D, K}
 
-pub record Told : Type 0 where
+pub record Account : Type 0 where
   pub kit : Kit
   pub choices : Choices
   pub ended : Ended
@@ -23,8 +23,8 @@ f-is d = object (field (ascii "f") d noField)
 abbrev failing : ℕ → ℕ → Path → Event
 failing code row path = err (error code (selection row) path)
 
-abbrev pub toldRuns : List Told
-toldRuns =
+abbrev pub accounts : List Account
+accounts =
     -- B: 42, a skipped item, and an item nulled for `"x"`
     record {
       kit = B .kit;

@@ -3,9 +3,9 @@ use mathlib.Core.Path.{_≡_, refl}
 use mathlib.Core.List.{map}
 use Rattle.graphql.specs.Report.{Ended, walk}
 use Rattle.graphql.specs.Kit.{asking}
-use Rattle.graphql.specs.Told.{Told, toldRuns}
+use Rattle.graphql.specs.Account.{Account, accounts}
 use Rattle.graphql.proofs.Computing.{computing}
 
-pub told-right : map (λ (t : Told). walk (asking (t .kit)) (t .choices)) toldRuns ≡ map (λ (t : Told). t .ended) toldRuns
+pub accounts-right : map (λ (a : Account). walk (asking (a .kit)) (a .choices)) accounts ≡ map (λ (a : Account). a .ended) accounts
 unfolding computing
-told-right = refl
+accounts-right = refl
