@@ -6,6 +6,7 @@ pub mod Account
 pub mod Views
 pub mod Determined
 pub mod Stable
+pub mod Closed
 pub mod Order
 pub mod Meets
 pub mod Fails

@@ -21,7 +21,8 @@ use Rattle.graphql.specs.Request.{Request}
 use Rattle.graphql.specs.Complete.{Leaf, Resolved, aSkip, anError, aLeaf, aList, anObject, Definition, typename, defined, Task, aField, anItem, numbered, tryNullify, fieldError, typeDefined, namedType, scalarLeaf, enumLeaf, leafAt, completeLeafValue, resolveAbstractType, objectType, executeGroup, executeSelectionSet, completeObjectValue, completeItems, completeListValue, completeValue, completeItem, executeField, step, run, execute}
 use Rattle.graphql.specs.Demand3.{Place, placeOfPath}
 use Rattle.graphql.proofs.Meets.{Meets, Mono, meets-pure, meets-halt, meets-fail, meets-orElse, meets-passed, meets-when, meets-weaken, meets-note, meets-map, meets-then, meets-inOrder, meets-anyOrder}
-use Rattle.graphql.proofs.Fails.{FailsIn, collect-fails, coerceArguments-fails, resolved-fails, field-resolved}
+use Rattle.graphql.proofs.Closed.{Closed, collect-closed, coerceArguments-closed, resolved-closed, resolveFieldValue-closed}
+use Rattle.graphql.proofs.Fails.{FailsIn, fails-closed}
 use Rattle.graphql.proofs.Places.{Hit, hit-more, hit-here, hit-up, covered-leaf, covered-null, FieldHere, PresentHere, DataHere, data-more, field-more, present-more, present-field, InGroup, object-hit, list-hit}
 
 module _ (Q : Request) where
@@ -44,14 +45,18 @@ module _ (Q : Request) where
 
   -- what comes after something that is only asked where it fails
   then-present : {A : Type 0} (p : Path) {m : M A} {k : A → M Val} → FailsIn (At p) m → ((a : A) → Presents p (k a)) → Presents p (m >>= k)
-  then-present p h k = meets-then (more p) (present-more Q (placeOfPath Q p)) (h .meets) (λ a _. k a)
+  then-present p h k = meets-then (more p) (present-more Q (placeOfPath Q p)) h (λ a _. k a)
 
   then-field : {A : Type 0} (p : Path) {m : M A} {k : A → M Val} → FailsIn (At p) m → ((a : A) → Fields p (k a)) → Fields p (m >>= k)
-  then-field p h k = meets-then (more p) (field-more Q (placeOfPath Q p)) (h .meets) (λ a _. k a)
+  then-field p h k = meets-then (more p) (field-more Q (placeOfPath Q p)) h (λ a _. k a)
 
   error-hit : (p : Path) (e : FieldError) (field definition literal : ℕ) → At p (errorOf e field definition literal p ∷ [])
   unfolding errorOf
   error-hit p e field definition literal = hit-here Q _
+
+  -- what is asked before a value is completed
+  asked : (p : Path) → Closed (λ A m. FailsIn (At p) m) p
+  asked p = fails-closed (more p) p (error-hit p)
 
   fieldError-meets : {A : Type 0} {P : A → Log → Type 0} (e : FieldError) (g : Group) (p : Path) → Meets (At p) P (fieldError Q e g p)
   unfolding fieldError
@@ -74,14 +79,14 @@ module _ (Q : Request) where
 
   typeDefined-fails : (type : Option ℕ) (g : Group) (p : Path) → FailsIn (At p) (typeDefined Q type g p)
   unfolding typeDefined
-  typeDefined-fails none g p = record { meets = fieldError-meets _ g p }
-  typeDefined-fails (some type) g p = record { meets = meets-pure _ tt }
+  typeDefined-fails none g p = fieldError-meets _ g p
+  typeDefined-fails (some type) g p = meets-pure _ tt
 
   namedType-fails : (t : TypeRef) (g : Group) (p : Path) → FailsIn (At p) (namedType Q t g p)
   unfolding namedType
   namedType-fails (ref.Named n nullable) g p = typeDefined-fails _ g p
-  namedType-fails (ref.ListOf inner nullable) g p = record { meets = fieldError-meets _ g p }
-  namedType-fails ref.Unknown g p = record { meets = fieldError-meets _ g p }
+  namedType-fails (ref.ListOf inner nullable) g p = fieldError-meets _ g p
+  namedType-fails ref.Unknown g p = fieldError-meets _ g p
 
   scalarLeaf-presents : (n : ℕ) (l : Leaf) (g : Group) (p : Path) → Presents p (scalarLeaf Q n l g p)
   unfolding scalarLeaf
@@ -112,18 +117,18 @@ module _ (Q : Request) where
 
   abstract-fails : (possible : ℕ → Bool) (e : FieldError) (type : Option ℕ) (g : Group) (p : Path) → FailsIn (At p) (resolveAbstractType Q possible e type g p)
   unfolding resolveAbstractType
-  abstract-fails possible e none g p = record { meets = fieldError-meets _ g p }
-  abstract-fails possible e (some type) g p = record { meets = meets-when _ (meets-pure _ tt) (fieldError-meets _ g p) }
+  abstract-fails possible e none g p = fieldError-meets _ g p
+  abstract-fails possible e (some type) g p = meets-when _ (meets-pure _ tt) (fieldError-meets _ g p)
 
   objectType-fails : (type : ℕ) (k : TypeKind) (n : ℕ) (g : Group) (p : Path) → FailsIn (At p) (objectType Q type k n g p)
   unfolding objectType
-  objectType-fails type kind.Scalar n g p = record { meets = fieldError-meets _ g p }
-  objectType-fails type kind.Enum n g p = record { meets = fieldError-meets _ g p }
-  objectType-fails type kind.Object n g p = record { meets = meets-when _ (meets-pure _ tt) (fieldError-meets _ g p) }
+  objectType-fails type kind.Scalar n g p = fieldError-meets _ g p
+  objectType-fails type kind.Enum n g p = fieldError-meets _ g p
+  objectType-fails type kind.Object n g p = meets-when _ (meets-pure _ tt) (fieldError-meets _ g p)
   objectType-fails type kind.Interface n g p = abstract-fails _ _ _ g p
   objectType-fails type kind.Union n g p = abstract-fails _ _ _ g p
-  objectType-fails type kind.InputObject n g p = record { meets = fieldError-meets _ g p }
-  objectType-fails type kind.Unknown n g p = record { meets = fieldError-meets _ g p }
+  objectType-fails type kind.InputObject n g p = fieldError-meets _ g p
+  objectType-fails type kind.Unknown n g p = fieldError-meets _ g p
 
   -- what a task gives: an item is skipped or there, a field may be left out
   abbrev Gives : Task → Path → M Val → Type 0
@@ -139,7 +144,7 @@ module _ (Q : Request) where
     set-gives : (type answer : ℕ) (selections : List ℕ) (p : Path) → Meets (At p) (DataHere Q (placeOfPath Q p)) (executeSelectionSet Q rec type answer selections p)
     unfolding executeSelectionSet
     set-gives type answer selections p =
-        meets-then (more p) (data-more Q (placeOfPath Q p)) (collect-fails (more p) _ _ _ _ _ _ _ type selections .meets)
+        meets-then (more p) (data-more Q (placeOfPath Q p)) (collect-closed (asked p) _ _ _ _ _ _ _ type selections)
         (λ groups _. meets-map _ (meets-anyOrder (more p) (λ g. field-more Q (placeOfPath Q (p ++ (name (g .key) ∷ [])))) (λ g. group-meets type answer p g _) p groups)
         (λ vs w e n. record { hit = object-hit Q p groups vs w n e }))
 
@@ -186,13 +191,13 @@ module _ (Q : Request) where
     unfolding executeField
     field-fields type answer g typename p = value-fields _ _ g [] p
     field-fields type answer g (defined f) p =
-        nullified-field _ p (then-field p (coerceArguments-fails (more p) p (error-hit p) Q _ _)
-        (λ args. then-field p (field-resolved (more p) Q answer _ args) (λ r. value-fields _ r g args p)))
+        nullified-field _ p (then-field p (coerceArguments-closed (asked p) Q _ _)
+        (λ args. then-field p (resolveFieldValue-closed (asked p) Q answer _ args) (λ r. value-fields _ r g args p)))
 
     step-gives : (t : Task) (p : Path) → Gives t p (step Q rec t p)
     unfolding step
     step-gives (aField type answer g d) p = field-fields type answer g d p
-    step-gives (anItem ty answer g args) p = then-present p (resolved-fails (more p) Q args answer _) (λ r. item-presents ty r g args p)
+    step-gives (anItem ty answer g args) p = then-present p (resolved-closed (asked p) Q args answer _) (λ r. item-presents ty r g args p)
 
   run-gives : (room : ℕ) (t : Task) (p : Path) → Gives t p (run Q room t p)
   unfolding run
