@@ -20,6 +20,7 @@ const SEEDS: std::ops::Range<u64> = 0..200;
 const SETS: usize = 10_000;
 /// Keys of an object that has long ones.
 const LONG_KEYS: usize = 512;
+const MANY_KEYS: usize = 3_800;
 /// Keys of 16 bytes, as many as the pool has room for.
 const PLAIN_KEYS: usize = 3_840;
 /// Selections in each level, and levels, of a document that unfolds.
@@ -53,7 +54,7 @@ macro_rules! workload {
 }
 
 /// For the table check.
-pub const TABLE_CHECKS: [Workload; 25] = [
+pub const TABLE_CHECKS: [Workload; 26] = [
     workload!("integers", "a list of 2,000 integers", ordinary::integers()),
     workload!("objects", "a list of 2,000 objects of three leaves", ordinary::objects()),
     workload!("wide", "64 objects of 30 entries, aliases and fragments", ordinary::wide()),
@@ -79,8 +80,11 @@ pub const TABLE_CHECKS: [Workload; 25] = [
     workload!("long", "512 keys of 57,344 bytes that differ late", {
         full::one_object_of_long_keys(LONG_KEYS)
     }),
-    workload!("hash", "512 keys of 59,907 bytes, one hash in the library", {
+    workload!("hash", "512 keys of 57,352 bytes, one hash in the library", {
         full::one_object_of_keys_with_one_hash(LONG_KEYS)
+    }),
+    workload!("hashes", "3,800 keys of 31,048 bytes, one hash in the library", {
+        full::one_object_of_keys_with_one_hash(MANY_KEYS)
     }),
     workload!("plain-hash", "3,840 keys of 16 bytes, one hash in plain Rust", {
         full::one_object_of(&keys_with_one_plain_hash(PLAIN_KEYS))
@@ -124,7 +128,8 @@ mod tests {
     #[test]
     fn what_is_said_of_them() {
         assert_eq!(full::LONG_KEY, 57_344);
-        assert_eq!(full::key_with_one_hash(LONG_KEYS), 59_907);
+        assert_eq!(full::key_with_one_hash(LONG_KEYS), 57_352);
+        assert_eq!(full::key_with_one_hash(MANY_KEYS), 31_048);
         assert_eq!(full::FIELDS_OF_A_TYPE, 511);
         assert_eq!(full::sets_unfolded(ACROSS as u64, LEVELS as u32), 88_573);
         // Each node has a text and a key.

@@ -90,33 +90,48 @@ pub fn one_object_of_long_keys(keys: usize) -> Tables {
     tables
 }
 
-/// What the port's hash of a key is multiplied by before each byte is added; it has 16 bits and begins
-/// at 0.
-const HASH_FACTOR: u32 = 40_503;
+/// What the two words of a step are multiplied by in the port's hash of a key.
+const HASH_FACTORS: [u64; 2] = [1_013_904_223, 1_640_531_527];
 
-/// The port's hash of a key.
+/// The port's hash of a key: eight bytes a step, and at last the last eight.
 pub fn hash(key: &[u8]) -> u16 {
-    let step = |hash: u16, byte: &u8| (u32::from(hash) * HASH_FACTOR + u32::from(*byte)) as u16;
-    key.iter().fold(0, step)
+    // Bytes past the end are 0, and they are the upper ones.
+    let word = |at: usize| {
+        key.iter().skip(at).take(4).rev().fold(0, |word, byte| 256 * word + u64::from(*byte))
+    };
+    let mixed = |hash: u64, one: u64, two: u64| {
+        ((hash + one) * HASH_FACTORS[0] + two * HASH_FACTORS[1]) / 65_536 % (1 << 32)
+    };
+    let length = key.len();
+    let steps = (0..length / 8).fold(length as u64 % (1 << 32), |hash, step| {
+        mixed(hash, word(8 * step), word(8 * step + 4))
+    });
+    let last = mixed(steps, word(length.saturating_sub(8)), word(length.saturating_sub(4)));
+    (last / 256 % 65_536) as u16
 }
+
+/// Two times eight bytes that no key's hash tells apart: what they add to it is the same. A word of
+/// the one is larger by the other's factor, and the other way round.
+const ONE_HASH: [[u8; 8]; 2] =
+    [*b"\x00\x7a\x37\x00\x5f\x00\x6f\x3c", *b"\x47\x00\x00\x62\x00\x0d\x00\x00"];
 
 /// One object of so many keys that have one length and one hash and differ late. This is what an
 /// enemy would do: the hash tells no two of them apart, so that all bytes are looked at.
 ///
-/// Key i is `a` over and over, and at its end i times three bytes that have the hash of `aaa`. It
-/// begins 3 * i bytes behind the names.
+/// Key i begins 8 * i bytes behind the names. All of them are the same eight bytes over and over, but
+/// for eight others, which stand where the first key ends and so are in all of them.
 pub fn one_object_of_keys_with_one_hash(keys: usize) -> Tables {
     let mut tables = plain();
     let (start, length) = (NAMES_END, key_with_one_hash(keys));
-    let other = bytes_with_the_hash_of_aaa();
-    let (all_a, end) = tables.pool[start..].split_at_mut(length);
-    all_a.fill(b'a');
-    end.iter_mut().zip(other.iter().cycle()).for_each(|(byte, other)| *byte = *other);
+    assert!(8 * keys <= length, "a key without the other eight bytes");
+    for (place, block) in tables.pool[start..].chunks_exact_mut(8).enumerate() {
+        block.copy_from_slice(&ONE_HASH[usize::from(8 * (place + 1) == length)]);
+    }
     tables.nodes = Vec::new();
     for row in 0..limit::NODES {
         // Node 0 is the object, the keys are those of the nodes behind it.
         let key = row.clamp(1, keys) - 1;
-        let span = [word(start + other.len() * key), word(length)];
+        let span = [word(start + 8 * key), word(length)];
         tables.nodes.extend([value_kind::STRING, span[0], span[1], span[0], span[1]]);
     }
     make_objects(&mut tables, 1, keys);
@@ -139,16 +154,7 @@ pub fn one_object_of(keys: &[Vec<u8>]) -> Tables {
 
 /// How long so many of these keys can be.
 pub fn key_with_one_hash(keys: usize) -> usize {
-    limit::POOL - NAMES_END - 3 * (keys - 1)
-}
-
-/// A small search: the hash has 16 bits, so of all triples of printing bytes some must have it.
-fn bytes_with_the_hash_of_aaa() -> [u8; 3] {
-    let bytes = b' '..=b'~';
-    let pairs = bytes.clone().flat_map(|one| bytes.clone().map(move |two| (one, two)));
-    let mut triples = pairs.flat_map(|(one, two)| bytes.clone().map(move |last| [one, two, last]));
-    let found = triples.find(|triple| triple[0] != b'a' && hash(triple) == hash(b"aaa"));
-    found.expect("there are more triples than hashes")
+    limit::POOL - NAMES_END - 8 * (keys - 1)
 }
 
 /// The tables in which rows are shared as often as they can be.

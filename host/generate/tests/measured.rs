@@ -59,7 +59,7 @@ fn small(tables: &Tables) -> Tables {
 
 #[test]
 fn keys_with_one_hash_differ_late() {
-    assert_eq!(full::hash(b"ab"), 62_265);
+    assert_eq!(full::hash(b"ab"), 52_648);
     let tables = full::one_object_of_keys_with_one_hash(512);
     demand_lawful("one hash", &tables);
     let keys: HashSet<&[u8]> = (1..=512).map(|row| tables.bytes(tables.node_key(row))).collect();
@@ -67,7 +67,7 @@ fn keys_with_one_hash_differ_late() {
     let first = tables.bytes(tables.node_key(1));
     for key in &keys {
         assert_eq!((key.len(), full::hash(key)), (first.len(), full::hash(first)));
-        assert_eq!(key[..58_000], first[..58_000]);
+        assert_eq!(key[..53_256], first[..53_256]);
     }
 }
 
