@@ -1,7 +1,7 @@
 -- The runs of which everything is told end as they are told: the definition computes each. Assumes nothing.
 use mathlib.Core.Path.{_≡_, refl}
 use mathlib.Core.List.{map}
-use Rattle.graphql.specs.Report.{Ended, walk}
+use Rattle.graphql.specs.Report.{walk}
 use Rattle.graphql.specs.Kit.{asking}
 use Rattle.graphql.specs.Account.{Account, accounts}
 use Rattle.graphql.proofs.Computing.{computing}

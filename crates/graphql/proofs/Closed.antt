@@ -1,5 +1,5 @@
 -- What holds of every way in which collecting fields, coercing arguments and resolving a field are put together holds of them: a property of
--- computations that the combinators keep is one of each definition. One lemma for each definition. Assumes nothing.
+-- computations that the combinators keep is one of each definition. One lemma for each definition. Assumes nullGiven.
 use mathlib.Core.List.{List, [], _∷_}
 use mathlib.Core.Bool.{Bool}
 use mathlib.Core.Option.{Option, none, some}
@@ -22,7 +22,7 @@ use Rattle.graphql.specs.Outcome.{tooFar, tooManyFields, variableInLiter
 use Rattle.graphql.specs.Run.{Path, here, M, pure, halt, fail, when, _>>=_, inOrder}
 use Rattle.graphql.specs.Json.{Json}
 use Rattle.graphql.specs.Errors.{errorOf}
-use Rattle.graphql.specs.Values.{opened, arrayOf, objectOf, valueOf, nodeValue, variableValue, Shape, single, listed, keyed, LiteralForm, nothing, variable, shaped, partsOf, partByPart}
+use Rattle.graphql.specs.Values.{opened, arrayOf, objectOf, valueOf, nodeValue, variableValue, Shape, single, listed, keyed, LiteralForm, nullGiven, variable, shaped, partsOf, partByPart}
 use Rattle.graphql.specs.Collect.{Collected, Group, collectField, enterFragment, spread, collectSelected, collectFields, collectWithin, collect}
 use Rattle.graphql.specs.Coerce.{Arguments, failAt, coerceVariable, coerceItems, inputField, inputFields, knownObject, inputObject, coerceNamed, coerceShape, coerceLiteral, coerceArgumentValue, argumentError, valued, defaultArgument, variableArgument, literalArgument, givenArgument, coerceArgument, coerceArgumentValues}
 use Rattle.graphql.specs.Request.{Request}
@@ -218,7 +218,7 @@ module _ {P : (A : Type 0) → M A → Type 0} {p : Path} (C : Closed P p) where
       coerceLiteral-closed : (ty row : ℕ) (l : LiteralForm)
           → P Json (coerceLiteral pool names refs types fields nodes literals variables room inside p ty row l)
       unfolding coerceLiteral
-      coerceLiteral-closed ty row nothing = search (closed, failAt-closed)
+      coerceLiteral-closed ty row nullGiven = search (closed, failAt-closed)
       coerceLiteral-closed ty row (variable name) = coerceVariable-closed ty row _
       coerceLiteral-closed ty row (shaped shape) = coerceShape-closed row shape _
 
@@ -257,7 +257,7 @@ module _ {P : (A : Type 0) → M A → Type 0} {p : Path} (C : Closed P p) where
       givenArgument-closed : (argument row : ℕ) (l : LiteralForm)
           → P Arguments (givenArgument pool names refs types fields nodes literals variables arguments given p argument row l)
       unfolding givenArgument
-      givenArgument-closed argument row nothing = search (closed, argumentError-closed, literalArgument-closed)
+      givenArgument-closed argument row nullGiven = search (closed, argumentError-closed, literalArgument-closed)
       givenArgument-closed argument row (variable name) = variableArgument-closed argument _
       givenArgument-closed argument row (shaped shape) = literalArgument-closed argument row
 
@@ -290,7 +290,7 @@ module _ {P : (A : Type 0) → M A → Type 0} {p : Path} (C : Closed P p) where
     resolved-closed args row answer.Error = search closed
     resolved-closed args row (answer.Leaf node) = search (closed, nodeValue-closed)
     resolved-closed args row (answer.List rows) = search closed
-    resolved-closed args row (answer.Object n parts) = search closed
+    resolved-closed args row (answer.Object n rows) = search closed
     resolved-closed args row (answer.Echo n) = echoed-closed n _
     resolved-closed args row answer.Unknown = search closed
 
@@ -299,6 +299,6 @@ module _ {P : (A : Type 0) → M A → Type 0} {p : Path} (C : Closed P p) where
     answered-closed args none = search closed
     answered-closed args (some row) = resolved-closed args row _
 
-    pub resolveFieldValue-closed : (parent n : ℕ) (args : Arguments) → P Resolved (resolveFieldValue Q parent n args)
+    pub resolveFieldValue-closed : (rows : Range) (n : ℕ) (args : Arguments) → P Resolved (resolveFieldValue Q rows n args)
     unfolding resolveFieldValue
-    resolveFieldValue-closed parent n args = answered-closed args _
+    resolveFieldValue-closed rows n args = answered-closed args _

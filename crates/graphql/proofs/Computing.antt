@@ -7,7 +7,7 @@ unfolding Rattle.graphql.specs.Run.after Rattle.graphql.specs.Ru
     Rattle.graphql.specs.Run.lowered Rattle.graphql.specs.Run.passed Rattle.graphql.specs.Run.marked
     Rattle.graphql.specs.Run.mark Rattle.graphql.specs.Run.onward Rattle.graphql.specs.Run._>>=_
     Rattle.graphql.specs.Run.when Rattle.graphql.specs.Run.note Rattle.graphql.specs.Run.pick
-    Rattle.graphql.specs.Run.the Rattle.graphql.specs.Run.others Rattle.graphql.specs.Run.place
+    Rattle.graphql.specs.Run.the Rattle.graphql.specs.Run.others Rattle.graphql.specs.Run.putBack
     Rattle.graphql.specs.Run.taking Rattle.graphql.specs.Run.anyOrder Rattle.graphql.specs.Run.inOrder
     Rattle.graphql.specs.Json.items Rattle.graphql.specs.Json.members Rattle.graphql.specs.Json.print
     Rattle.graphql.specs.Json.printItems Rattle.graphql.specs.Json.printMembers Rattle.graphql.specs.Json.containers
@@ -20,7 +20,7 @@ unfolding Rattle.graphql.specs.Run.after Rattle.graphql.specs.Ru
     Rattle.graphql.specs.Lookup.nonNullRef Rattle.graphql.specs.Lookup.nonNull Rattle.graphql.specs.Lookup.typeNamed
     Rattle.graphql.specs.Lookup.lists Rattle.graphql.specs.Lookup.hasValue Rattle.graphql.specs.Lookup.fieldNamed
     Rattle.graphql.specs.Lookup.fragmentNamed Rattle.graphql.specs.Lookup.selectionsOf
-    Rattle.graphql.specs.Lookup.variableNamed Rattle.graphql.specs.Lookup.fieldsOf Rattle.graphql.specs.Lookup.fieldAnswer
+    Rattle.graphql.specs.Lookup.variableNamed Rattle.graphql.specs.Lookup.fieldAnswer
     Rattle.graphql.specs.Values.opened Rattle.graphql.specs.Values.arrayOf Rattle.graphql.specs.Values.objectOf
     Rattle.graphql.specs.Values.nodeForm Rattle.graphql.specs.Values.valueOf Rattle.graphql.specs.Values.nodeValue
     Rattle.graphql.specs.Values.variableValue Rattle.graphql.specs.Values.literalForm Rattle.graphql.specs.Values.partsOf
@@ -42,7 +42,7 @@ unfolding Rattle.graphql.specs.Run.after Rattle.graphql.specs.Ru
     Rattle.graphql.specs.Coerce.defaultArgument Rattle.graphql.specs.Coerce.variableArgument
     Rattle.graphql.specs.Coerce.literalArgument Rattle.graphql.specs.Coerce.givenArgument
     Rattle.graphql.specs.Coerce.coerceArgument Rattle.graphql.specs.Coerce.coerceArgumentValues
-    Rattle.graphql.specs.Complete.numbered Rattle.graphql.specs.Complete.tryNullify Rattle.graphql.specs.Complete.takes
+    Rattle.graphql.specs.Complete.rowsOfObject Rattle.graphql.specs.Complete.numbered Rattle.graphql.specs.Complete.tryNullify Rattle.graphql.specs.Complete.takes
     Rattle.graphql.specs.Complete.fieldName Rattle.graphql.specs.Complete.attachedType
     Rattle.graphql.specs.Complete.fieldPlace Rattle.graphql.specs.Complete.fieldError
     Rattle.graphql.specs.Complete.mergeSelectionSets Rattle.graphql.specs.Complete.definitionOf
@@ -55,13 +55,13 @@ unfolding Rattle.graphql.specs.Run.after Rattle.graphql.specs.Ru
     Rattle.graphql.specs.Complete.resolveAbstractType Rattle.graphql.specs.Complete.objectType
     Rattle.graphql.specs.Complete.executeGroup Rattle.graphql.specs.Complete.executeSelectionSet
     Rattle.graphql.specs.Complete.completeObjectValue Rattle.graphql.specs.Complete.completeItems
-    Rattle.graphql.specs.Complete.completeListValue Rattle.graphql.specs.Complete.completeValue
+    Rattle.graphql.specs.Complete.completeListValue Rattle.graphql.specs.Complete.completeValue Rattle.graphql.specs.Complete.completeResolved
     Rattle.graphql.specs.Complete.completeItem Rattle.graphql.specs.Complete.executeField
     Rattle.graphql.specs.Complete.step Rattle.graphql.specs.Complete.run Rattle.graphql.specs.Complete.execute
     Rattle.graphql.specs.Report.recordOf Rattle.graphql.specs.Report.recordsOf Rattle.graphql.specs.Report.segmentWords
     Rattle.graphql.specs.Report.recordWords Rattle.graphql.specs.Report.wordsOf Rattle.graphql.specs.Report.ended
     Rattle.graphql.specs.Report.walk Rattle.graphql.specs.Report.refused Rattle.graphql.specs.Report.fitted
-    Rattle.graphql.specs.Report.asksSchema Rattle.graphql.specs.Report.introspects Rattle.graphql.specs.Report.answer
+    Rattle.graphql.specs.Report.asksSchema Rattle.graphql.specs.Report.introspects Rattle.graphql.specs.Report.reportUnbounded
     Rattle.graphql.specs.Report.report Rattle.graphql.specs.Report.reportInOrder Rattle.graphql.specs.Report.filled
     Rattle.graphql.specs.Depth.riseOf Rattle.graphql.specs.Depth.andThen Rattle.graphql.specs.Depth.childSet
     Rattle.graphql.specs.Depth.checkField Rattle.graphql.specs.Depth.metAgain Rattle.graphql.specs.Depth.remembered

@@ -1,22 +1,22 @@
 -- Demand 3. Two runs of one request agree, so their data and, where no selection set is given up, their records are the same; the data of a run
 -- stands at the root, so that each of its nulls has its record; and a report of code 0 shows both. Assumes nothing.
 use mathlib.Core.Path.{_≡_, refl, sym, ap, _∙_, subst}
-use mathlib.Core.List.{List, [], _∷_, _++_, Perm, Perm·filterMap}
+use mathlib.Core.List.{[], Perm·filterMap}
 use mathlib.Core.Bool.{Bool, true, false, cond, _&&_}
 use Prim.Native.Nat.{ℕ}
 use native.Mathlib.Omega.{arith}
 use lib.ListN.{length}
 use lib.Dec.{leb}
-use Rattle.tables.specs.Lawful.{lawful, lawfulBuffers}
+use Rattle.tables.specs.Lawful.{lawful, lawfulBuffers, lawfulChoices}
 use Rattle.graphql.specs.Run.{Log, Choices, Res, stop, failed, done}
 use Rattle.graphql.specs.Data.{Data, nulled, printData}
 use Rattle.graphql.specs.Request.{Request}
 use Rattle.graphql.specs.Complete.{execute}
-use Rattle.graphql.specs.Report.{recordOf, recordsOf, wordsOf, Ended, refusedWith, answeredWith, ended, walk, Report, refused, fitted, introspects, answer}
-use Rattle.graphql.specs.Demand3.{NoneGivenUp, NoneSkipped, Place, NullAt, here, placeOfPath, Explained, Shown, OrderHidden, RecordsKept, NoneInEither, NullsExplained, ReportsShown}
+use Rattle.graphql.specs.Report.{recordOf, recordsOf, wordsOf, Ended, refusedWith, answeredWith, ended, walk, Report, refused, fitted, introspects, report, reportUnbounded}
+use Rattle.graphql.specs.Demand3.{NoneSkipped, Spot, NullAt, itself, spotOfPath, Explained, Shown, OrderHidden, RecordsKept, NoneInEither, NullsExplained, ReportsShown, ReportsUnbounded}
 use Rattle.graphql.proofs.Stable.{Refusal, refusal, Agree, stop-l, stop-r, both-failed, both-done, Logs, none-perm, stable-stop}
 use Rattle.graphql.proofs.Meets.{Post, p-failed, p-done}
-use Rattle.graphql.proofs.Places.{Hit, hit-explained, DataHere}
+use Rattle.graphql.proofs.Spots.{Hit, hit-explained, DataHere}
 use Rattle.graphql.proofs.Order.{execute-stable}
 use Rattle.graphql.proofs.Nulls.{execute-gives}
 
@@ -38,9 +38,9 @@ walked true true r e = absurd (omega arith)
 walked true false r e = refl
 walked false b' r e = absurd (omega arith)
 
-answer-is : (Q : Request) (text errors : ℕ) (c : Choices) → answer Q text errors c .code ≡ 0 → answer Q text errors c ≡ fitted text errors (walk Q c)
-unfolding answer
-answer-is Q text errors c e = walked (lawful (Q .tables) && lawfulBuffers text errors) (introspects (Q .tables .selections)) _ e
+unbounded-is : (Q : Request) (text errors : ℕ) (c : Choices) → reportUnbounded Q text errors c .code ≡ 0 → reportUnbounded Q text errors c ≡ fitted text errors (walk Q c)
+unfolding reportUnbounded
+unbounded-is Q text errors c e = walked (lawful (Q .tables) && lawfulBuffers text errors) (introspects (Q .tables .selections)) _ e
 
 stopped-not : (Q : Request) (c : Choices) (code : ℕ) (x : Res Data) → execute Q c ≡ x → ended x ≡ refusedWith code → code ≡ 0 → ⊥
 unfolding ended
@@ -63,8 +63,17 @@ fitted-shown Q text errors c (answeredWith d log) w e =
 
 pub reportsShown : ReportsShown
 reportsShown Q text errors c e =
-    let same = answer-is Q text errors c e in
+    let same = unbounded-is Q text errors c e in
     subst (Shown Q c) (sym same) (fitted-shown Q text errors c (walk Q c) refl (subst (λ (r : Report). r .code ≡ 0) same e))
+
+bounded : (b : Bool) (r : Report) → (cond b r (refused 1)) .code ≡ 0 → cond b r (refused 1) ≡ r
+unfolding refused
+bounded true r e = refl
+bounded false r e = absurd (omega arith)
+
+pub reportsUnbounded : ReportsUnbounded
+unfolding report
+reportsUnbounded Q text errors c e = bounded (lawfulChoices (length c)) _ e
 
 -- ---- (a) and (b)
 
@@ -115,28 +124,28 @@ noneInEither Q c c' tree tree' log log' e e' n = none-perm n (runs-alike Q c c' 
 
 -- ---- (c)
 
-module _ (Q : Request) {tree : Data} {log : Log} {place : Place} where
-  null-explained : {w : Log} → Hit Q [] w → answeredWith nulled w ≡ answeredWith tree log → NullAt tree place → Explained Q place log
+module _ (Q : Request) {tree : Data} {log : Log} {spot : Spot} where
+  null-explained : {w : Log} → Hit Q [] w → answeredWith nulled w ≡ answeredWith tree log → NullAt tree spot → Explained Q spot log
   null-explained {w} h e x =
       let d : nulled ≡ tree = cc in
       let l : w ≡ log = cc in
-      at-root (subst (λ (w : Log). Hit Q [] w) l h) (subst (λ (d : Data). NullAt d place) (sym d) x)
+      at-root (subst (λ (w : Log). Hit Q [] w) l h) (subst (λ (d : Data). NullAt d spot) (sym d) x)
     where
-      at-root : {place : Place} → Hit Q [] log → NullAt nulled place → Explained Q place log
-      at-root h here = hit-explained Q [] log h
+      at-root : {spot : Spot} → Hit Q [] log → NullAt nulled spot → Explained Q spot log
+      at-root h itself = hit-explained Q [] log h
 
-  end-explained : (x : Res Data) → Post (Hit Q []) (DataHere Q []) x → ended x ≡ answeredWith tree log → NoneSkipped log → NullAt tree place → Explained Q place log
+  end-explained : (x : Res Data) → Post (Hit Q []) (DataHere Q []) x → ended x ≡ answeredWith tree log → NoneSkipped log → NullAt tree spot → Explained Q spot log
   unfolding ended
   end-explained (stop s w) h e n x = let o : _≡_ {A = ℕ} 0 1 = cc in absurd (omega arith)
   end-explained (failed r w c) (p-failed h) e n x = null-explained h e x
   end-explained (done d w c) (p-done h) e n x =
       let same : d ≡ tree = cc in
       let l : w ≡ log = cc in
-      hit-explained Q place log (go h same l)
+      hit-explained Q spot log (go h same l)
     where
-      go : {d : Data} {w : Log} → DataHere Q [] d w → d ≡ tree → w ≡ log → Hit Q place log
-      go {d} {w} h same l = subst (λ (w : Log). DataHere Q [] tree w) l (subst (λ (d : Data). DataHere Q [] d w) same h) n .hit place x
+      go : {d : Data} {w : Log} → DataHere Q [] d w → d ≡ tree → w ≡ log → Hit Q spot log
+      go {d} {w} h same l = subst (λ (w : Log). DataHere Q [] tree w) l (subst (λ (d : Data). DataHere Q [] d w) same h) n .hit spot x
 
 pub nullsExplained : NullsExplained
-unfolding placeOfPath walk
-nullsExplained Q c tree log place e = end-explained Q (execute Q c) (execute-gives Q .at c) e
+unfolding spotOfPath walk
+nullsExplained Q c tree log spot e = end-explained Q (execute Q c) (execute-gives Q .at c) e

@@ -1,9 +1,9 @@
 -- Each contract is made of equations whose right sides the input determines. Assumes nothing.
-use mathlib.Core.Path.{_≡_, sym, _∙_}
+use mathlib.Core.Path.{sym, _∙_}
 use mathlib.Core.List.{List}
 use Prim.Native.Nat.{ℕ}
 use Rattle.graphql.specs.declared.report.Reported.{Reported}
-use Rattle.graphql.specs.Report.{Report, Reports, report, reportInOrder}
+use Rattle.graphql.specs.Report.{Report, Reports}
 use Rattle.graphql.specs.Determined.{TableCheckDetermined, Same, RunDetermined, OrderedRunDetermined}
 
 pub tableCheckDetermined : TableCheckDetermined

@@ -1,6 +1,6 @@
 -- Where collecting fields, coercing arguments or resolving a field fails, it has logged an error record at the field's path: the only failures in
 -- them are errors that are made there. Assumes nothing.
-use mathlib.Core.List.{List, [], _∷_}
+use mathlib.Core.List.{[], _∷_}
 use Prim.Native.Nat.{ℕ}
 use Rattle.graphql.specs.declared.errors.FieldError.{FieldError}
 use Rattle.graphql.specs.Run.{Path, Log, M}

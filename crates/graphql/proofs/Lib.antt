@@ -10,6 +10,6 @@ pub mod Closed
 pub mod Order
 pub mod Meets
 pub mod Fails
-pub mod Places
+pub mod Spots
 pub mod Nulls
 pub mod Demand3

@@ -1,6 +1,6 @@
 -- Two runs of one request agree, whatever their choices: every computation of the definition is made of the combinators that keep `Stable`. One
 -- lemma for each definition. Assumes nothing.
-use mathlib.Core.List.{List, [], _∷_}
+use mathlib.Core.List.{List, []}
 use mathlib.Core.Bool.{Bool, true, false}
 use mathlib.Core.Option.{Option, none, some}
 use Prim.Native.Nat.{ℕ, zero, suc}
@@ -16,7 +16,7 @@ use Rattle.graphql.specs.Data.{Val}
 use Rattle.graphql.specs.Collect.{Group, collect}
 use Rattle.graphql.specs.Coerce.{Arguments}
 use Rattle.graphql.specs.Request.{Request}
-use Rattle.graphql.specs.Complete.{Leaf, Resolved, aSkip, anError, aLeaf, aList, anObject, Definition, typename, defined, Task, aField, anItem, tryNullify, fieldError, coerceArguments, resolved, resolveFieldValue, typeDefined, namedType, scalarLeaf, enumLeaf, leafAt, completeLeafValue, resolveAbstractType, objectType, executeGroup, executeSelectionSet, completeObjectValue, completeItems, completeListValue, completeValue, completeItem, executeField, step, run, execute}
+use Rattle.graphql.specs.Complete.{Leaf, Given, aLeaf, aList, anObject, Resolved, aSkip, anError, given, Definition, typename, defined, Task, aField, anItem, tryNullify, fieldError, coerceArguments, resolved, resolveFieldValue, typeDefined, namedType, scalarLeaf, enumLeaf, leafAt, completeLeafValue, resolveAbstractType, objectType, executeGroup, executeSelectionSet, completeObjectValue, completeItems, completeListValue, completeValue, completeResolved, completeItem, executeField, step, run, execute}
 use Rattle.graphql.proofs.Stable.{Stable, stable, depth-refused, fields-refused, variable-refused, stable-pure, stable-halt, stable-fail, stable-when, stable-bind, stable-inOrder}
 use Rattle.graphql.proofs.Closed.{Closed, collect-closed, coerceArguments-closed, resolved-closed, resolveFieldValue-closed}
 
@@ -54,8 +54,8 @@ module _ (Q : Request) where
   resolved-stable : (args : Arguments) (row : ℕ) (a : Answer) → Stable (resolved Q args row a)
   resolved-stable args row a = resolved-closed (stable-closed []) Q args row a
 
-  field-resolved : (parent n : ℕ) (args : Arguments) → Stable (resolveFieldValue Q parent n args)
-  field-resolved parent n args = resolveFieldValue-closed (stable-closed []) Q parent n args
+  field-resolved : (rows : Range) (n : ℕ) (args : Arguments) → Stable (resolveFieldValue Q rows n args)
+  field-resolved rows n args = resolveFieldValue-closed (stable-closed []) Q rows n args
 
   typeDefined-stable : (type : Option ℕ) (g : Group) (p : Path) → Stable (typeDefined Q type g p)
   unfolding typeDefined
@@ -107,18 +107,18 @@ module _ (Q : Request) where
   objectType-stable type kind.Unknown n g p = search fieldError-stable
 
   module _ {rec : Task → Path → M Val} (h : (t : Task) (p : Path) → Stable (rec t p)) where
-    group-stable : (type answer : ℕ) (p : Path) (g : Group) (d : Option Definition) → Stable (executeGroup Q rec type answer p g d)
+    group-stable : (type : ℕ) (rows : Range) (p : Path) (g : Group) (d : Option Definition) → Stable (executeGroup Q rec type rows p g d)
     unfolding executeGroup
-    group-stable type answer p g none = search stable
-    group-stable type answer p g (some d) = h _ _
+    group-stable type rows p g none = search stable
+    group-stable type rows p g (some d) = h _ _
 
-    set-stable : (type answer : ℕ) (selections : List ℕ) (p : Path) → Stable (executeSelectionSet Q rec type answer selections p)
+    set-stable : (type : ℕ) (rows : Range) (selections : List ℕ) (p : Path) → Stable (executeSelectionSet Q rec type rows selections p)
     unfolding executeSelectionSet
-    set-stable type answer selections p = search (stable, collect-stable, group-stable)
+    set-stable type rows selections p = search (stable, collect-stable, group-stable)
 
-    object-value-stable : (ty n answer : ℕ) (g : Group) (p : Path) → Stable (completeObjectValue Q rec ty n answer g p)
+    object-value-stable : (ty n : ℕ) (rows : Range) (g : Group) (p : Path) → Stable (completeObjectValue Q rec ty n rows g p)
     unfolding completeObjectValue
-    object-value-stable ty n answer g p = search (stable, namedType-stable, objectType-stable, set-stable)
+    object-value-stable ty n rows g p = search (stable, namedType-stable, objectType-stable, set-stable)
 
     items-stable : (nullable : Bool) (inner : ℕ) (rows : List ℕ) (g : Group) (args : Arguments) (p : Path) → Stable (completeItems Q rec nullable inner rows g args p)
     unfolding completeItems
@@ -130,30 +130,32 @@ module _ (Q : Request) where
     list-stable (ref.ListOf inner nullable) rows g args p = items-stable nullable inner rows g args p
     list-stable ref.Unknown rows g args p = search fieldError-stable
 
-    value-stable : (ty : ℕ) (r : Resolved) (g : Group) (args : Arguments) (p : Path) → Stable (completeValue Q rec ty r g args p)
+    value-stable : (ty : ℕ) (r : Given) (g : Group) (args : Arguments) (p : Path) → Stable (completeValue Q rec ty r g args p)
     unfolding completeValue
-    value-stable ty aSkip g args p = search stable
-    value-stable ty anError g args p = search fieldError-stable
     value-stable ty (aLeaf l) g args p = leaf-stable ty l g p
     value-stable ty (aList rows) g args p = list-stable _ rows g args p
-    value-stable ty (anObject n row) g args p = object-value-stable ty n row g p
+    value-stable ty (anObject n rows) g args p = object-value-stable ty n rows g p
+
+    resolved-value-stable : (ty : ℕ) (r : Resolved) (g : Group) (args : Arguments) (p : Path) → Stable (completeResolved Q rec ty r g args p)
+    unfolding completeResolved
+    resolved-value-stable ty aSkip g args p = search stable
+    resolved-value-stable ty anError g args p = search fieldError-stable
+    resolved-value-stable ty (given r) g args p = value-stable ty r g args p
 
     item-stable : (ty : ℕ) (r : Resolved) (g : Group) (args : Arguments) (p : Path) → Stable (completeItem Q rec ty r g args p)
     unfolding completeItem
     item-stable ty aSkip g args p = search stable
     item-stable ty anError g args p = search stable
-    item-stable ty (aLeaf l) g args p = tryNullify-stable _ (value-stable ty (aLeaf l) g args p)
-    item-stable ty (aList rows) g args p = tryNullify-stable _ (value-stable ty (aList rows) g args p)
-    item-stable ty (anObject n row) g args p = tryNullify-stable _ (value-stable ty (anObject n row) g args p)
+    item-stable ty (given r) g args p = tryNullify-stable _ (value-stable ty r g args p)
 
-    field-stable : (type answer : ℕ) (g : Group) (d : Definition) (p : Path) → Stable (executeField Q rec type answer g d p)
+    field-stable : (type : ℕ) (rows : Range) (g : Group) (d : Definition) (p : Path) → Stable (executeField Q rec type rows g d p)
     unfolding executeField
-    field-stable type answer g typename p = search value-stable
-    field-stable type answer g (defined f) p = search (stable, tryNullify-stable, arguments-stable, field-resolved, value-stable)
+    field-stable type rows g typename p = search value-stable
+    field-stable type rows g (defined f) p = search (stable, tryNullify-stable, arguments-stable, field-resolved, resolved-value-stable)
 
     step-stable : (t : Task) (p : Path) → Stable (step Q rec t p)
     unfolding step
-    step-stable (aField type answer g d) p = field-stable type answer g d p
+    step-stable (aField type rows g d) p = field-stable type rows g d p
     step-stable (anItem ty answer g args) p = search (stable, resolved-stable, item-stable)
 
   run-stable : (room : ℕ) (t : Task) (p : Path) → Stable (run Q room t p)

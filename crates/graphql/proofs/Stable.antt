@@ -7,7 +7,7 @@ use mathlib.Core.Path.{_≡_, refl, ap, subst, subst₂, ap₂}
 use mathlib.Core.Bool.{Bool, true, false}
 use mathlib.Core.List.{List, [], _∷_, _++_, append-assoc, append-nil, Perm, Perm·rfl, Perm·trans, Perm·symm, Perm·append, Perm·append-left, Perm·append-right, perm-append-comm, mem-append-left, mem-append-right, mem-cons-self, Perm·subset, Subset, Subset·refl, Subset·trans, subset-append-right}
 use lib.ListN.{length}
-use Rattle.graphql.specs.Run.{Path, Event, givenUp, Log, Choices, Reach, Res, stop, failed, done, M, after, pure, halt, fail, caught, orElse, lowered, passed, marked, mark, onward, _>>=_, when, note, pick, the, others, place, taking, anyOrder, inOrder}
+use Rattle.graphql.specs.Run.{Path, Event, givenUp, Log, Choices, Reach, Res, stop, failed, done, M, after, pure, halt, fail, caught, orElse, lowered, passed, marked, mark, onward, _>>=_, when, note, pick, the, others, putBack, taking, anyOrder, inOrder}
 use Rattle.graphql.specs.Run.{here, pastList}
 use Rattle.graphql.specs.Demand3.{NoneGivenUp}
 
@@ -148,8 +148,8 @@ module _ {G B : Type 0} (run : G → M B) where
     f-done : {vs : List B} {w : Log} {c : Choices} → Took gs vs w → Fate gs (done vs w c)
 
   took-place : (i : ℕ) (g : G) (gs : List G) {v : B} {vs : List B} {w ws : Log} {c d : Choices}
-      → run (the i g gs) c ≡ done v w d → Took (others i g gs) vs ws → Took (g ∷ gs) (place i v vs) (w ++ ws)
-  unfolding the others place
+      → run (the i g gs) c ≡ done v w d → Took (others i g gs) vs ws → Took (g ∷ gs) (putBack i v vs) (w ++ ws)
+  unfolding the others putBack
   took-place zero g gs e t = one e t Perm·rfl
   took-place (suc i) g [] e nothing = one e nothing Perm·rfl
   took-place (suc i) g (h ∷ hs) {w} e (one {w = w′} {ws = ws′} e′ t p) =
@@ -178,7 +178,7 @@ module _ {G B : Type 0} (run : G → M B) where
   length-others (suc i) g (h ∷ hs) = ap suc (length-others i h hs)
 
   fate-place : (i : ℕ) (g : G) (gs : List G) {v : B} {w : Log} {c d : Choices} → run (the i g gs) c ≡ done v w d
-      → {y : Res (List B)} → Fate (others i g gs) y → Fate (g ∷ gs) (after w (onward y (λ vs. pure (place i v vs))))
+      → {y : Res (List B)} → Fate (others i g gs) y → Fate (g ∷ gs) (after w (onward y (λ vs. pure (putBack i v vs))))
   unfolding after onward pure
   fate-place i g gs e (f-stop e′) = f-stop e′
   fate-place i g gs {w} e (f-failed {w = u} b) = f-failed (broke-more (subset-append-right w u) (broke-others i g gs b))
@@ -186,7 +186,7 @@ module _ {G B : Type 0} (run : G → M B) where
 
   fate-run : (k : ℕ) → ((gs : List G) → length gs ≤ k → (c : Choices) → Fate gs (taking run k gs c))
       → (i : ℕ) (g : G) (gs : List G) → length gs ≤ k → (c : Choices) (x : Res B) → run (the i g gs) c ≡ x
-      → Fate (g ∷ gs) (onward x (λ v. taking run k (others i g gs) >>= λ vs. pure (place i v vs)))
+      → Fate (g ∷ gs) (onward x (λ v. taking run k (others i g gs) >>= λ vs. pure (putBack i v vs)))
   unfolding onward _>>=_
   fate-run k ih i g gs l c (stop s w) e = f-stop e
   fate-run k ih i g gs l c (failed r w d) e = f-failed (broke-the i g gs e)

@@ -1,15 +1,15 @@
 -- Runs of which everything is told, the data as a tree and the log as it was written: what the statements on order hang on, a null that no
 -- resolver answered, a selection set given up, an item skipped, shows in no report.
-use mathlib.Core.List.{List, [], _∷_, map}
+use mathlib.Core.List.{List, [], _∷_}
 use Prim.Native.Nat.{ℕ}
 use Rattle.rows.specs.Ascii.{ascii}
-use Rattle.graphql.specs.Run.{name, index, Path, Event, err, givenUp, skipped, Log, Choices}
+use Rattle.graphql.specs.Run.{name, index, Path, Event, err, givenUp, skipped, Choices}
 use Rattle.graphql.specs.Json.{null, natural}
 use Rattle.graphql.specs.Data.{Data, nulled, leaf, list, object, noEntry, entry, noField, field}
-use Rattle.graphql.specs.Report.{Ended, answeredWith, walk}
-use Rattle.graphql.specs.Kit.{'f, 'b, 'O, Kit, queries, sets, selections, nodes, answers, selection, set, ask, askIn, nullLiteral, nullNode, errs, leafOf, listAnswer, objectAnswer, :Int, :Int!, :[O], over, one, echo, Case, error, asking}
+use Rattle.graphql.specs.Report.{Ended, answeredWith}
+use Rattle.graphql.specs.Kit.{'f, 'g, 'a, 'b, 'y, 'O, Kit, queries, sets, selections, nodes, answers, selection, set, ask, askIn, nullLiteral, nullNode, wholeNumber, skips, errs, leafOf, listAnswer, objectAnswer, :Int, :Int!, :[[Int]], :O, :[O], over, one, echo, error}
 use Rattle.graphql.specs.Kit as kit
-use Rattle.graphql.specs.Cases.{B, D, K}
+use Rattle.graphql.specs.Cases.{A, B, D, K}
 
 pub record Account : Type 0 where
   pub kit : Kit
@@ -39,6 +39,20 @@ accounts =
     -- a null that a resolver answered at `f: Int`, and one that is echoed
     record { kit = one :Int :Int (nullNode ∷ []) (leafOf 'f 0 ∷ []); choices = []; ended = answeredWith (f-is (leaf null)) [] } ∷
     record { kit = echo :Int (nullLiteral ∷ []); choices = []; ended = answeredWith (f-is (leaf null)) [] } ∷
+    -- A: an error item fails its list, which the field's own type takes; and a field that its own type takes
+    record { kit = A .kit; choices = []; ended = answeredWith (f-is nulled) (failing 1 0 (name 'f ∷ index 1 ∷ []) ∷ []) } ∷
+    record { kit = one :Int :Int [] (errs 'f ∷ []); choices = []; ended = answeredWith (f-is nulled) (failing 1 0 (name 'f ∷ []) ∷ []) } ∷
+    -- `{f{g} g a y}` with `f: O`, `g: [[Int]]`, `a: Int`, which is skipped, and no y: all goes well, and nothing is noted
+    record {
+      kit = over
+          (queries (kit.field 'f :O ∷ kit.field 'g :[[Int]] ∷ kit.field 'a :Int ∷ []) ∷ sets (set 0 4 ∷ set 4 1 ∷ []) ∷
+          selections (askIn 'f :O 1 ∷ ask 'g :[[Int]] ∷ ask 'a :Int ∷ ask 'y :Int ∷ ask 'g :Int ∷ []) ∷ nodes (wholeNumber 1 0 ∷ []) ∷
+          answers (objectAnswer 0 0 1 3 ∷ objectAnswer 'f 'O 4 1 ∷ listAnswer 'g 5 1 ∷ skips 'a ∷ leafOf 'g 0 ∷ listAnswer 0 6 1 ∷ leafOf 0 0 ∷ []) ∷ []);
+      choices = [];
+      ended = answeredWith
+          (object (field (ascii "f") (object (field (ascii "g") (leaf (natural 1)) noField))
+          (field (ascii "g") (list (entry (list (entry (leaf (natural 1)) noEntry)) noEntry)) noField))) [];
+    } ∷
     -- `{f{f}}` with `f: [O]`, an object whose `f: Int!` fails: its set is given up, and the item nulled
     record {
       kit = over

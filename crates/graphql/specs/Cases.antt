@@ -1,6 +1,5 @@
 -- "Runs that settle a reading": the cases A to N of document 01, as one table under one statement.
 use mathlib.Core.List.{List, [], _∷_}
-use Prim.Native.Nat.{ℕ}
 use Rattle.graphql.specs.Run.{name, index}
 use Rattle.graphql.specs.Kit.{'Query, 'f, 'g, 'a, 'b, 'x, 'y, 'v, Kit, queries, sets, selections, nodes, answers, selection, field, set, if-true, if$, select, ask, intLiteral, listLiteral, nullNode, wholeNumber, stringNode, skips, errs, leafOf, listAnswer, objectAnswer, :Int, :Int!, :[Int], :[Int!], :[Int!]!, :[[Int]], :Float, over, one, echo, Case, error, chosen, answered, refusedAt}
 

@@ -1,7 +1,7 @@
 -- CoerceArgumentValues (October 2021, section 6.4.1) and the input coercion of literals (sections 3.5 and 3.9 to 3.12), as the Rust reads them:
 -- "Arguments as the Rust's." Read it after Values and Errors.
 use mathlib.Core.List.{List, [], _∷_, _++_, map}
-use mathlib.Core.Bool.{Bool, true, false, not, cond, _&&_}
+use mathlib.Core.Bool.{Bool, true, false, cond, _&&_}
 use mathlib.Core.Option.{Option, none, some}
 use Prim.Native.Nat.{ℕ, zero, suc, _-_}
 use lib.Dec.{eqb}
@@ -19,11 +19,11 @@ use Rattle.rows.specs.declared.schema.TypeKind.the-variants as kind
 use Rattle.graphql.specs.declared.errors.FieldError.{FieldError}
 use Rattle.graphql.specs.declared.errors.FieldError.the-variants as error
 use Rattle.graphql.specs.Outcome.{tooFar, mostOpen}
-use Rattle.graphql.specs.Run.{Path, here, M, pure, halt, fail, when, _>>=_, inOrder}
+use Rattle.graphql.specs.Run.{Path, here, M, pure, halt, fail, when, inOrder, _>>=_}
 use Rattle.graphql.specs.Json.{Json, null, array, object, items, members}
 use Rattle.graphql.specs.Errors.{errorOf}
 use Rattle.graphql.specs.Lookup.{rowsIn, find, nonNull, typeNamed, fieldNamed, variableNamed}
-use Rattle.graphql.specs.Values.{opened, NodeForm, isNull, isBool, isOther, nodeForm, variableValue, Shape, single, listed, keyed, LiteralForm, nothing, variable, shaped, literalForm, partByPart}
+use Rattle.graphql.specs.Values.{opened, NodeForm, isNull, isBool, isOther, nodeForm, variableValue, Shape, single, listed, keyed, LiteralForm, nullGiven, variable, shaped, literalForm, partByPart}
 
 -- The values of the arguments, by name.
 abbrev pub Arguments : Type 0
@@ -126,7 +126,7 @@ module _ (pool names refs types fields nodes literals variables : List ℕ) wher
     coerceShape row shape ref.Unknown = failAt error.UndefinedInputType row p
 
     unfoldable pub coerceLiteral : (ty row : ℕ) → LiteralForm → M Json
-    coerceLiteral ty row nothing = when (nonNull refs ty) (failAt error.InnerNull row p) (pure null)
+    coerceLiteral ty row nullGiven = when (nonNull refs ty) (failAt error.InnerNull row p) (pure null)
     coerceLiteral ty row (variable name) = coerceVariable p ty row (variableNamed variables name)
     coerceLiteral ty row (shaped shape) = coerceShape row shape (typeRefAt refs ty)
 
@@ -167,7 +167,7 @@ module _ (pool names refs types fields nodes literals variables : List ℕ) wher
     literalArgument p argument row = valued argument (coerceArgumentValue mostOpen p (argumentAt arguments argument .ty) row)
 
     unfoldable pub givenArgument : Path → (argument row : ℕ) → LiteralForm → M Arguments
-    givenArgument p argument row nothing =
+    givenArgument p argument row nullGiven =
         when (isNonNull argument) (argumentError error.NullArgument p argument) (literalArgument p argument row)
     givenArgument p argument row (variable name) = variableArgument p argument (variableNamed variables name)
     givenArgument p argument row (shaped shape) = literalArgument p argument row

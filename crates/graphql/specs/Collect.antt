@@ -33,8 +33,8 @@ pub record Collected : Type 0 where
   pub groups : List Group
   pub count : ℕ
 
-abbrev pub nothing : Collected
-nothing = record { visited = []; groups = []; count = 0 }
+abbrev pub noneYet : Collected
+noneYet = record { visited = []; groups = []; count = 0 }
 
 unfoldable pub visit : ℕ → Collected → Collected
 visit n c = record { visited = n ∷ c .visited; groups = c .groups; count = c .count }
@@ -130,5 +130,5 @@ module _ (types members sets selections fragments variables nodes : List ℕ) wh
   -- the groups of a selection set
   unfoldable pub collect : ℕ → List ℕ → M (List Group)
   collect object rows = do
-    c ← collectFields (λ o s d. collectWithin mostOpen o s d) object rows nothing
+    c ← collectFields (λ o s d. collectWithin mostOpen o s d) object rows noneYet
     pure (c .groups)

@@ -21,7 +21,7 @@ use Rattle.tables.specs.Tables.{Tables}
 use Rattle.graphql.specs.declared.errors.FieldError.{FieldError}
 use Rattle.graphql.specs.declared.errors.FieldError.the-variants as error
 use Rattle.graphql.specs.Outcome.{tooFar, mostOpen, mostSegments}
-use Rattle.graphql.specs.Run.{Path, name, index, skipped, here, pastList, M, pure, halt, fail, orElse, passed, when, note, _>>=_, anyOrder, inOrder}
+use Rattle.graphql.specs.Run.{Path, name, index, skipped, here, pastList, M, pure, halt, fail, orElse, passed, when, note, anyOrder, inOrder, _>>=_}
 use Rattle.graphql.specs.Json.{Json, null, string, containers, aNull, aBoolean, anInt, aLong, aFloat, aString, isA, stringOf}
 use Rattle.graphql.specs.Data.{Data, nulled, leaf, list, object, Val, absent, val, entries, fields}
 use Rattle.graphql.specs.Errors.{errorOf}
@@ -32,6 +32,7 @@ use Rattle.graphql.specs.Coerce.{Arguments, argumentNamed, coerceArgumen
 use Rattle.graphql.specs.Request.{Request}
 
 -- A leaf that a resolver gave, and where it came from: an answer (a row), an argument that is echoed (its name), the object's own type name.
+-- Where it came from is what the message of an error would speak of; no record has it today.
 pub data Origin : Type 0 where
   fromAnswer : ℕ → Origin
   fromArgument : ℕ → Origin
@@ -41,24 +42,38 @@ pub record Leaf : Type 0 where
   pub origin : Origin
   pub json : Json
 
--- What a resolver gave: a skip, an error, a leaf, a list of answers (rows), an object (the name of its type, and its row).
+-- What a resolver gave: a leaf, a list of answers (rows), an object (the name of its type, and the rows that answer its fields); or it gave
+-- nothing, but a skip or an error.
+pub data Given : Type 0 where
+  aLeaf : Leaf → Given
+  aList : List ℕ → Given
+  anObject : (name : ℕ) → Range → Given
+
 pub data Resolved : Type 0 where
   aSkip : Resolved
   anError : Resolved
-  aLeaf : Leaf → Resolved
-  aList : List ℕ → Resolved
-  anObject : (name row : ℕ) → Resolved
+  given : Given → Resolved
 
 -- The own definition of a field: `__typename` has the type `String!` and no arguments.
 pub data Definition : Type 0 where
   typename : Definition
   defined : ℕ → Definition
 
--- What is done at a place in the response: a field of an object (its type and answer), by the group that asks for it and the field's own
--- definition; or an item of a list, by the type of items, the group and the field's arguments.
+-- What is done at a place in the response: a field of an object (its type and the rows that answer it), by the group that asks for it and the
+-- field's own definition; or an item of a list (the type of items and the item's answer), by the group and the field's arguments.
 pub data Task : Type 0 where
-  aField : (type answer : ℕ) → Group → Definition → Task
+  aField : (type : ℕ) → Range → Group → Definition → Task
   anItem : (ty answer : ℕ) → Group → Arguments → Task
+
+-- the rows that answer the fields of an object; any other answer has none
+unfoldable pub rowsOfObject : Answer → Range
+rowsOfObject answer.Skip = record { first = 0; count = 0 }
+rowsOfObject answer.Error = record { first = 0; count = 0 }
+rowsOfObject (answer.Leaf node) = record { first = 0; count = 0 }
+rowsOfObject (answer.List rows) = record { first = 0; count = 0 }
+rowsOfObject (answer.Object n rows) = rows
+rowsOfObject (answer.Echo n) = record { first = 0; count = 0 }
+rowsOfObject answer.Unknown = record { first = 0; count = 0 }
 
 unfoldable pub numbered : ℕ → List ℕ → List (ℕ × ℕ)
 numbered i [] = []
@@ -123,16 +138,16 @@ module _ (Q : Request) where
   -- "A leaf's or echo's containers count as it is taken, ahead of its type". An echo without its argument is an error.
   unfoldable pub echoed : (n : ℕ) → Option Json → M Resolved
   echoed n none = pure anError
-  echoed n (some j) = when (leb (containers j) mostOpen) (pure (aLeaf (record { origin = fromArgument n; json = j }))) (halt tooFar)
+  echoed n (some j) = when (leb (containers j) mostOpen) (pure (given (aLeaf (record { origin = fromArgument n; json = j })))) (halt tooFar)
 
   unfoldable pub resolved : Arguments → (row : ℕ) → Answer → M Resolved
   resolved args row answer.Skip = pure aSkip
   resolved args row answer.Error = pure anError
   resolved args row (answer.Leaf node) = do
     j ← nodeValue (T .pool) (T .nodes) mostOpen node
-    pure (aLeaf (record { origin = fromAnswer row; json = j }))
-  resolved args row (answer.List rows) = pure (aList (rowsIn rows))
-  resolved args row (answer.Object n parts) = pure (anObject n row)
+    pure (given (aLeaf (record { origin = fromAnswer row; json = j })))
+  resolved args row (answer.List rows) = pure (given (aList (rowsIn rows)))
+  resolved args row (answer.Object n rows) = pure (given (anObject n rows))
   resolved args row (answer.Echo n) = echoed n (argumentNamed n args)
   resolved args row answer.Unknown = pure anError
 
@@ -142,8 +157,8 @@ module _ (Q : Request) where
   answered args (some row) = resolved args row (answerAt (T .answers) row)
 
   -- ResolveFieldValue(objectType, objectValue, fieldName, argumentValues)
-  unfoldable pub resolveFieldValue : (parent n : ℕ) → Arguments → M Resolved
-  resolveFieldValue parent n args = answered args (fieldAnswer (T .answers) parent n)
+  unfoldable pub resolveFieldValue : Range → (n : ℕ) → Arguments → M Resolved
+  resolveFieldValue object-rows n args = answered args (fieldAnswer (T .answers) object-rows n)
 
   -- ---- CompleteValue (section 6.4.3): the type, leaves
 
@@ -211,23 +226,23 @@ module _ (Q : Request) where
   -- ---- The walk: `rec` does a task one level down
   module _ (rec : Task → Path → M Val) where
     -- "A group whose first field isn't defined on the object is left out."
-    unfoldable pub executeGroup : (type answer : ℕ) → Path → Group → Option Definition → M Val
-    executeGroup type answer p g none = pure absent
-    executeGroup type answer p g (some d) = rec (aField type answer g d) (p ++ (name (g .key) ∷ []))
+    unfoldable pub executeGroup : (type : ℕ) → Range → Path → Group → Option Definition → M Val
+    executeGroup type object-rows p g none = pure absent
+    executeGroup type object-rows p g (some d) = rec (aField type object-rows g d) (p ++ (name (g .key) ∷ []))
 
     -- ExecuteSelectionSet(selectionSet, objectType, objectValue, variableValues)
-    unfoldable pub executeSelectionSet : (type answer : ℕ) → List ℕ → Path → M Data
-    executeSelectionSet type answer selections p = do
+    unfoldable pub executeSelectionSet : (type : ℕ) → Range → List ℕ → Path → M Data
+    executeSelectionSet type object-rows selections p = do
       groups ← collect (T .types) (T .members) (T .sets) (T .selections) (T .fragments) (T .variables) (T .nodes) type selections
-      vs ← anyOrder (λ g. executeGroup type answer p g (definitionOf type (fieldName g))) p groups
+      vs ← anyOrder (λ g. executeGroup type object-rows p g (definitionOf type (fieldName g))) p groups
       pure (object (fields (map (λ g. nameText (T .pool) (T .names) (g .key)) groups) vs))
 
     -- CompleteValue of an object
-    unfoldable pub completeObjectValue : (ty name answer : ℕ) → Group → Path → M Val
-    completeObjectValue ty n answer g p = do
+    unfoldable pub completeObjectValue : (ty name : ℕ) → Range → Group → Path → M Val
+    completeObjectValue ty n object-rows g p = do
       type ← namedType (typeRefAt (T .refs) ty) g p
       object-type ← objectType type (typeAt (T .types) type .kind) n g p
-      d ← executeSelectionSet object-type answer (mergeSelectionSets (g .first ∷ g .more)) p
+      d ← executeSelectionSet object-type object-rows (mergeSelectionSets (g .first ∷ g .more)) p
       pure (val d)
 
     -- CompleteValue of a list. An item that fails was nulled in `completeItem` where items may be null; here the list is where it may be,
@@ -242,38 +257,40 @@ module _ (Q : Request) where
     completeListValue (ref.ListOf inner nullable) rows g args p = completeItems nullable inner rows g args p
     completeListValue ref.Unknown rows g args p = fieldError error.UndefinedType g p
 
-    -- CompleteValue(fieldType, fields, result, variableValues): "skip (a field is left out); null; list; then list type without a list;
-    -- undefined type; input object; leaf or object"
-    unfoldable pub completeValue : (ty : ℕ) → Resolved → Group → Arguments → Path → M Val
-    completeValue ty aSkip g args p = pure absent
-    completeValue ty anError g args p = fieldError error.Resolver g p
+    -- CompleteValue(fieldType, fields, result, variableValues): ".. null; list; then list type without a list; undefined type; input object;
+    -- leaf or object"
+    unfoldable pub completeValue : (ty : ℕ) → Given → Group → Arguments → Path → M Val
     completeValue ty (aLeaf l) g args p = completeLeafValue ty l g p
     completeValue ty (aList rows) g args p = completeListValue (typeRefAt (T .refs) ty) rows g args p
-    completeValue ty (anObject n row) g args p = completeObjectValue ty n row g p
+    completeValue ty (anObject n object-rows) g args p = completeObjectValue ty n object-rows g p
+
+    -- a field's value: "skip (a field is left out)", or the resolver's error
+    unfoldable pub completeResolved : (ty : ℕ) → Resolved → Group → Arguments → Path → M Val
+    completeResolved ty aSkip g args p = pure absent
+    completeResolved ty anError g args p = fieldError error.Resolver g p
+    completeResolved ty (given r) g args p = completeValue ty r g args p
 
     -- an item: "An error answer inside a list fails the list itself" (a listed difference: the specification nulls the item);
     -- "A skipped item is dropped and still counted in later indices."
     unfoldable pub completeItem : (ty : ℕ) → Resolved → Group → Arguments → Path → M Val
     completeItem ty aSkip g args p = note (skipped p) (pure absent)
     completeItem ty anError g args p = fail pastList (errorOf error.Resolver (fieldPlace g) 0 0 p)
-    completeItem ty (aLeaf l) g args p = tryNullify (nonNull (T .refs) ty) (completeValue ty (aLeaf l) g args p)
-    completeItem ty (aList rows) g args p = tryNullify (nonNull (T .refs) ty) (completeValue ty (aList rows) g args p)
-    completeItem ty (anObject n row) g args p = tryNullify (nonNull (T .refs) ty) (completeValue ty (anObject n row) g args p)
+    completeItem ty (given r) g args p = tryNullify (nonNull (T .refs) ty) (completeValue ty r g args p)
 
     -- ExecuteField(objectType, objectValue, fieldType, fields, variableValues): "coerces arguments by the object's own definition, then
     -- takes the answer .., then completes against the attached type of the first field; a failure becomes null if the object's own type
     -- is nullable and otherwise goes up". The attached type where the specification uses the object's own is a listed difference.
     -- `__typename` "answers the object type's name, and is completed against its row's attached type"; its own type is non-null.
-    unfoldable pub executeField : (type answer : ℕ) → Group → Definition → Path → M Val
-    executeField type answer g typename p =
+    unfoldable pub executeField : (type : ℕ) → Range → Group → Definition → Path → M Val
+    executeField type object-rows g typename p =
         completeValue (attachedType g) (aLeaf (record { origin = fromType; json = string (nameText (T .pool) (T .names) (typeAt (T .types) type .name)) })) g [] p
-    executeField type answer g (defined f) p = tryNullify (nonNull (T .refs) (fieldAt (T .fields) f .ty)) (do
+    executeField type object-rows g (defined f) p = tryNullify (nonNull (T .refs) (fieldAt (T .fields) f .ty)) (do
       args ← coerceArguments p (fieldAt (T .fields) f .arguments) (fieldSelection (T .selections) (g .first) .given)
-      r ← resolveFieldValue answer (fieldName g) args
-      completeValue (attachedType g) r g args p)
+      r ← resolveFieldValue object-rows (fieldName g) args
+      completeResolved (attachedType g) r g args p)
 
     unfoldable pub step : Task → Path → M Val
-    step (aField type answer g d) p = executeField type answer g d p
+    step (aField type object-rows g d) p = executeField type object-rows g d p
     step (anItem ty answer g args) p = do
       r ← resolved args answer (answerAt (T .answers) answer)
       completeItem ty r g args p
@@ -283,6 +300,6 @@ module _ (Q : Request) where
   run zero t p = halt tooFar
   run (suc room) t p = step (λ t' p'. run room t' p') t p
 
-  -- a whole walk: "a run starts from the root type and doesn't look at that answer's type name"
+  -- a whole walk: "The first is the root and is an object; a run starts from the root type and doesn't look at that answer's type name"
   unfoldable pub execute : M Data
-  execute = executeSelectionSet (run mostSegments) (T .root) 0 (selectionsOf (T .sets) 0) []
+  execute = executeSelectionSet (run mostSegments) (T .root) (rowsOfObject (answerAt (T .answers) 0)) (selectionsOf (T .sets) 0) []

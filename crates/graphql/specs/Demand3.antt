@@ -9,7 +9,7 @@ use Rattle.rows.specs.Names.{nameText}
 use Rattle.graphql.specs.Run.{name, index, Path, ErrorRecord, givenUp, skipped, Log, Choices}
 use Rattle.graphql.specs.Data.{Data, nulled, list, object, Entries, entry, Fields, field, printData}
 use Rattle.graphql.specs.Request.{Request}
-use Rattle.graphql.specs.Report.{recordsOf, wordsOf, answeredWith, walk, Report, answer}
+use Rattle.graphql.specs.Report.{recordsOf, wordsOf, answeredWith, walk, Report, report, reportUnbounded}
 
 -- ---- The log of a run
 
@@ -23,13 +23,13 @@ pub record NoneSkipped (log : Log) : Type 0 where
 
 -- ---- The data of a run, and its nulls
 
--- A place in the data, as a reader of its text finds it: under keys and at positions, from the root.
+-- A spot in the data, as a reader of its text finds it: under keys and at positions, from the root.
 pub data Step : Type 0 where
   under : List ℕ → Step
   position : ℕ → Step
 
-abbrev pub Place : Type 0
-Place = List Step
+abbrev pub Spot : Type 0
+Spot = List Step
 
 -- counted from `n`, the entry `i` is `d`
 pub data EntryAt : (n : ℕ) → Entries → (i : ℕ) → (d : Data) → Type 0 where
@@ -41,33 +41,33 @@ pub data FieldAt : Fields → (key : List ℕ) → (d : Data) → Type 0 where
   this : {key : List ℕ} {d : Data} {fs : Fields} → FieldAt (field key d fs) key d
   later : {key key' : List ℕ} {d e : Data} {fs : Fields} → FieldAt fs key' e → FieldAt (field key d fs) key' e
 
--- `NullAt tree p`: a null that no resolver answered stands at the place `p` of the tree. It took the place of something that failed.
-pub data NullAt : (tree : Data) → Place → Type 0 where
-  here : NullAt nulled []
-  inList : {es : Entries} {i : ℕ} {d : Data} {p : Place} → EntryAt 0 es i d → NullAt d p → NullAt (list es) (position i ∷ p)
-  inObject : {fs : Fields} {key : List ℕ} {d : Data} {p : Place} → FieldAt fs key d → NullAt d p → NullAt (object fs) (under key ∷ p)
+-- `NullAt tree p`: a null that no resolver answered stands at the spot `p` of the tree. It took the place of something that failed.
+pub data NullAt : (tree : Data) → Spot → Type 0 where
+  itself : NullAt nulled []
+  inList : {es : Entries} {i : ℕ} {d : Data} {p : Spot} → EntryAt 0 es i d → NullAt d p → NullAt (list es) (position i ∷ p)
+  inObject : {fs : Fields} {key : List ℕ} {d : Data} {p : Spot} → FieldAt fs key d → NullAt d p → NullAt (object fs) (under key ∷ p)
 
--- The place that an error record's path names. Its indices count the items that the resolver gave, and a text's positions those that are
+-- The spot that an error record's path names. Its indices count the items that the resolver gave, and a text's positions those that are
 -- left: they are the same where none is skipped.
-unfoldable pub placeOfPath : Request → Path → Place
-placeOfPath Q [] = []
-placeOfPath Q (name n ∷ p) = under (nameText (Q .tables .pool) (Q .tables .names) n) ∷ placeOfPath Q p
-placeOfPath Q (index i ∷ p) = position i ∷ placeOfPath Q p
+unfoldable pub spotOfPath : Request → Path → Spot
+spotOfPath Q [] = []
+spotOfPath Q (name n ∷ p) = under (nameText (Q .tables .pool) (Q .tables .names) n) ∷ spotOfPath Q p
+spotOfPath Q (index i ∷ p) = position i ∷ spotOfPath Q p
 
--- an error record at a place or below it
-pub record Explained (Q : Request) (place : Place) (log : Log) : Type 0 where
+-- an error record at a spot or below it
+pub record Explained (Q : Request) (spot : Spot) (log : Log) : Type 0 where
   pub by : ErrorRecord
-  pub below : Place
+  pub below : Spot
   pub written : List·Mem by (recordsOf log)
-  pub prefix : placeOfPath Q (by .path) ≡ place ++ below
+  pub prefix : spotOfPath Q (by .path) ≡ spot ++ below
 
 -- ---- The statements
 
 -- (a) If both runs answer 0, their data texts are equal.
 abbrev pub OrderHidden : Type 0
 OrderHidden = (Q : Request) (text errors text' errors' : ℕ) (c c' : Choices)
-    → answer Q text errors c .code ≡ 0 → answer Q text' errors' c' .code ≡ 0
-    → answer Q text errors c .text ≡ answer Q text' errors' c' .text
+    → reportUnbounded Q text errors c .code ≡ 0 → reportUnbounded Q text' errors' c' .code ≡ 0
+    → reportUnbounded Q text errors c .text ≡ reportUnbounded Q text' errors' c' .text
 
 -- (b) If moreover in neither run a selection set is given up to a null, their error records are the same with the same repeats.
 abbrev pub RecordsKept : Type 0
@@ -81,10 +81,14 @@ NoneInEither = (Q : Request) (c c' : Choices) (tree tree' : Data) (log log' : Lo
     → walk Q c ≡ answeredWith tree log → walk Q c' ≡ answeredWith tree' log'
     → NoneGivenUp log → NoneGivenUp log'
 
--- (c) If no list item is skipped in a run, every null that no resolver answered has in that run an error record at its place or below.
+-- (c) If no list item is skipped in a run, every null that no resolver answered has in that run an error record at its spot or below.
 abbrev pub NullsExplained : Type 0
-NullsExplained = (Q : Request) (c : Choices) (tree : Data) (log : Log) (place : Place)
-    → walk Q c ≡ answeredWith tree log → NoneSkipped log → NullAt tree place → Explained Q place log
+NullsExplained = (Q : Request) (c : Choices) (tree : Data) (log : Log) (spot : Spot)
+    → walk Q c ≡ answeredWith tree log → NoneSkipped log → NullAt tree spot → Explained Q spot log
+
+-- What a run reports with code 0 it reports without the rule on the number of choices too, so that (a) speaks of it.
+abbrev pub ReportsUnbounded : Type 0
+ReportsUnbounded = (Q : Request) (text errors : ℕ) (c : Choices) → report Q text errors c .code ≡ 0 → report Q text errors c ≡ reportUnbounded Q text errors c
 
 -- A report with code 0 shows the data of the run as its text, and the run's error records, one after the other, as its words.
 pub record Shown (Q : Request) (c : Choices) (r : Report) : Type 0 where
@@ -96,4 +100,4 @@ pub record Shown (Q : Request) (c : Choices) (r : Report) : Type 0 where
   pub count-is : r .records ≡ length (recordsOf log)
 
 abbrev pub ReportsShown : Type 0
-ReportsShown = (Q : Request) (text errors : ℕ) (c : Choices) → answer Q text errors c .code ≡ 0 → Shown Q c (answer Q text errors c)
+ReportsShown = (Q : Request) (text errors : ℕ) (c : Choices) → reportUnbounded Q text errors c .code ≡ 0 → Shown Q c (reportUnbounded Q text errors c)

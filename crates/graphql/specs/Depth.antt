@@ -2,7 +2,7 @@
 -- so far plus its remembered rise is over 3; otherwise it doesn't raise the result. An undefined one is passed over. Skip and include
 -- are ignored." Read it after Lookup.
 use mathlib.Core.List.{List, [], _∷_}
-use mathlib.Core.Bool.{Bool, true, false, cond, _&&_}
+use mathlib.Core.Bool.{cond, _&&_}
 use mathlib.Core.Option.{Option, none, some}
 use Prim.Native.Nat.{ℕ, zero, suc, _+_, _-_, max}
 use lib.Dec.{leb, ltb, eqb}

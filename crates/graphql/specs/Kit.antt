@@ -1,15 +1,15 @@
 -- Small kits, written as rows: the tables of worked runs, over one schema that they share.
 use mathlib.Core.List.{List, [], _∷_, _++_}
-use mathlib.Core.Bool.{Bool, true, false, cond, _&&_}
-use Prim.Native.Nat.{ℕ, zero, suc, _+_}
+use mathlib.Core.Bool.{Bool, true, cond, _&&_}
+use Prim.Native.Nat.{ℕ, suc, _+_}
 use Prim.Native.String.{String}
 use lib.ListN.{length, getD}
 use lib.Dec.{eqb}
 use Rattle.rows.specs.Ascii.{ascii}
 use Rattle.rows.specs.Strings.{same}
-use Rattle.rows.specs.Names.{reserved, 'typename, 'Int, 'Float, 'String, 'Boolean, 'ID}
+use Rattle.rows.specs.Names.{reserved, 'Int, 'Float, 'String, 'Boolean, 'ID}
 use Rattle.tables.specs.Tables.{Tables}
-use Rattle.graphql.specs.Run.{Segment, name, index, Path, ErrorRecord, Choices}
+use Rattle.graphql.specs.Run.{name, Path, ErrorRecord, Choices}
 use Rattle.graphql.specs.Request.{Request}
 use Rattle.graphql.specs.Report.{wordsOf, Report, report}
 use Rattle.graphql.specs.Depth.{DepthReport, depthReport}
@@ -30,7 +30,7 @@ kitTexts = "1.5" ∷ "1e400" ∷ []
 abbrev pub kitBytes : List ℕ
 kitBytes = 34 ∷ 92 ∷ 8 ∷ 12 ∷ 10 ∷ 13 ∷ 9 ∷ 1 ∷ []
 
--- the kits' own names by number; the reserved ones stand in Lookup
+-- the kits' own names by number
 abbrev pub 'Query : ℕ
 'Query = 12
 

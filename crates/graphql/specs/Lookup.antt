@@ -1,7 +1,7 @@
 -- What the tables say, by name: types and their parts, fragments, variables, the answer of a field. Each definition takes the tables that it
 -- reads, as the row views do. Read it after Outcome.
 use mathlib.Core.List.{List, [], _∷_}
-use mathlib.Core.Bool.{Bool, true, false, not, cond, _||_}
+use mathlib.Core.Bool.{Bool, false, not, cond, _||_}
 use mathlib.Core.Option.{Option, none, some}
 use Prim.Native.Nat.{ℕ, zero, suc}
 use lib.Dec.{eqb}
@@ -12,12 +12,10 @@ use Rattle.rows.specs.Names.{nameText}
 use Rattle.rows.specs.Schema.{typeRefAt, typeAt, memberAt, fieldAt}
 use Rattle.rows.specs.Document.{setAt, fragmentAt}
 use Rattle.rows.specs.Json.{variableAt}
-use Rattle.rows.specs.Answers.{answerAt, answerName}
+use Rattle.rows.specs.Answers.{answerName}
 use Rattle.rows.specs.declared.layout.Range.{Range}
 use Rattle.rows.specs.declared.schema.TypeRef.{TypeRef}
 use Rattle.rows.specs.declared.schema.TypeRef.the-variants as ref
-use Rattle.rows.specs.declared.answers.Answer.{Answer}
-use Rattle.rows.specs.declared.answers.Answer.the-variants as answer
 
 -- ---- Searching rows
 
@@ -80,15 +78,6 @@ variableNamed variables n = find (λ row. eqb (variableAt variables row .name) n
 
 -- ---- The answers
 
-unfoldable pub fieldsOf : Answer → List ℕ
-fieldsOf answer.Skip = []
-fieldsOf answer.Error = []
-fieldsOf (answer.Leaf node) = []
-fieldsOf (answer.List rows) = []
-fieldsOf (answer.Object type fields) = rowsIn fields
-fieldsOf (answer.Echo name) = []
-fieldsOf answer.Unknown = []
-
--- the answer to a field of an object
-unfoldable pub fieldAnswer : (answers : List ℕ) → (object n : ℕ) → Option ℕ
-fieldAnswer answers object n = find (λ row. eqb (answerName answers row) n) (fieldsOf (answerAt answers object))
+-- the answer to a field of an object whose rows these are
+unfoldable pub fieldAnswer : (answers : List ℕ) → Range → ℕ → Option ℕ
+fieldAnswer answers rows n = find (λ row. eqb (answerName answers row) n) (rowsIn rows)

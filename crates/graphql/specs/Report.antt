@@ -2,7 +2,7 @@
 -- Complete.
 use mathlib.Core.Path.{_≡_}
 use mathlib.Core.List.{List, [], _∷_, _++_, filterMap}
-use mathlib.Core.Bool.{Bool, true, false, cond, _&&_, _||_}
+use mathlib.Core.Bool.{Bool, false, cond, _&&_, _||_}
 use mathlib.Core.Option.{Option, none, some}
 use Prim.Native.Nat.{ℕ, _-_}
 use lib.ListN.{length, replicate}
@@ -97,8 +97,8 @@ unfoldable pub introspects : (selections : List ℕ) → Bool
 introspects selections = any (λ row. asksSchema (selectionAt selections row .what)) (rowsFrom 0 (rowsOf selections selectionWidth))
 
 -- "1 before 2 before the walk; 3, 4, 5 .. by which is reached first; then 6, then 7." For choices of any number.
-unfoldable pub answer : Request → (text errors : ℕ) → Choices → Report
-answer Q text errors choices =
+unfoldable pub reportUnbounded : Request → (text errors : ℕ) → Choices → Report
+reportUnbounded Q text errors choices =
     let walked = fitted text errors (walk Q choices) in
     let allowed = cond (introspects (Q .tables .selections)) (refused (codeOf AsksForSchema)) walked in
     cond (lawful (Q .tables) && lawfulBuffers text errors) allowed (refused (codeOf Unlawful))
@@ -106,8 +106,8 @@ answer Q text errors choices =
 -- "run in a given order": of choices there may be so many and no more
 unfoldable pub report : Request → (text errors : ℕ) → Choices → Report
 report Q text errors choices =
-    let answered = answer Q text errors choices in
-    cond (lawfulChoices (length choices)) answered (refused (codeOf Unlawful))
+    let unbounded = reportUnbounded Q text errors choices in
+    cond (lawfulChoices (length choices)) unbounded (refused (codeOf Unlawful))
 
 -- "run in document order": with no choices each set takes its groups as they stand
 unfoldable pub reportInOrder : Request → (text errors : ℕ) → Report
@@ -115,7 +115,7 @@ reportInOrder Q text errors = report Q text errors []
 
 -- ---- What is handed back
 
--- A buffer of this size that holds `out`: "With 0, everything past the counts is zero", and with any other code there is nothing else.
+-- A buffer of this size that holds `out`: "With 0, everything past the counts is zero"; with any other code there are zeros alone.
 unfoldable pub filled : (size : ℕ) → List ℕ → List ℕ
 filled size out = out ++ replicate (size - length out) 0
 

@@ -86,7 +86,7 @@ module _ {A : Type 0} where
   marked e (failed r w c) = failed here (e ∷ w) c
   marked e (done b w c) = done b w c
 
-  -- `m`, and where it fails `e` is logged before what it logged; the failure goes no further than any other
+  -- `m`, and where it fails `e` is logged before what it logged. A field's failure goes no further than any other, whichever field it was
   unfoldable pub mark : Event → M A → M A
   mark e m c = marked e (m c)
 
@@ -126,10 +126,10 @@ module _ {A : Type 0} where
   others (suc i) a (b ∷ bs) = a ∷ others i b bs
 
   -- `a` put back at `i`
-  unfoldable pub place : ℕ → A → List A → List A
-  place zero a l = a ∷ l
-  place (suc i) a [] = a ∷ []
-  place (suc i) a (b ∷ bs) = b ∷ place i a bs
+  unfoldable pub putBack : ℕ → A → List A → List A
+  putBack zero a l = a ∷ l
+  putBack (suc i) a [] = a ∷ []
+  putBack (suc i) a (b ∷ bs) = b ∷ putBack i a bs
 
 module _ {G B : Type 0} (run : G → M B) where
   unfoldable pub taking : ℕ → List G → M (List B)
@@ -139,7 +139,7 @@ module _ {G B : Type 0} (run : G → M B) where
     i ← pick (suc (length gs))
     v ← run (the i g gs)
     vs ← taking k (others i g gs)
-    pure (place i v vs)
+    pure (putBack i v vs)
 
   -- all groups, in the order that the choices say; the results stand in the groups' own order
   unfoldable pub anyOrder : Path → List G → M (List B)

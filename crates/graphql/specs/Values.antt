@@ -1,8 +1,8 @@
 -- Nodes as JSON values, and literals that convert part by part. A value in which too many containers are open is code 3. Read it after
 -- Lookup.
-use mathlib.Core.List.{List, [], _∷_, map}
+use mathlib.Core.List.{List, map}
 use mathlib.Core.Bool.{Bool, true, false}
-use mathlib.Core.Option.{Option, some}
+use mathlib.Core.Option.{some}
 use Prim.Native.Nat.{ℕ, zero, suc, _+_, _*_}
 use Rattle.rows.specs.Layout.{nodeWidth}
 use Rattle.rows.specs.Rows.{rowsOf}
@@ -15,13 +15,14 @@ use Rattle.rows.specs.declared.json.Node.the-variants as node
 use Rattle.rows.specs.declared.json.Literal.{Literal}
 use Rattle.rows.specs.declared.json.Literal.the-variants as literal
 use Rattle.graphql.specs.Outcome.{tooFar, variableInLiteral}
-use Rattle.graphql.specs.Run.{M, pure, halt, _>>=_, inOrder}
+use Rattle.graphql.specs.Run.{M, pure, halt, inOrder, _>>=_}
 use Rattle.graphql.specs.Json.{Json, null, bool, natural, negative, float, string, array, object, items, members}
 use Rattle.graphql.specs.Lookup.{rowsIn}
 
 -- ---- Containers
 
--- Code 3: "33 open containers in a leaf or literal". A container is opened where there is room for one.
+-- Code 3: "33 open containers in a leaf or literal". A container is opened where there is room for one; where there is none left, nothing is
+-- asked of what is inside.
 unfoldable pub opened : {A : Type 0} → (room : ℕ) → M A → M A
 opened zero m = halt tooFar
 opened (suc room) m = m
@@ -90,12 +91,12 @@ pub data Shape : Type 0 where
   keyed : Range → Shape
 
 pub data LiteralForm : Type 0 where
-  nothing : LiteralForm
+  nullGiven : LiteralForm
   variable : ℕ → LiteralForm
   shaped : Shape → LiteralForm
 
 unfoldable pub literalForm : Literal → LiteralForm
-literalForm literal.Null = nothing
+literalForm literal.Null = nullGiven
 literalForm literal.False = shaped single
 literalForm literal.True = shaped single
 literalForm (literal.Natural n) = shaped single

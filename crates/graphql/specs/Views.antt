@@ -1,6 +1,6 @@
 -- What the views tell apart, written out once more as tables: which scalars take which values, and what a node and a literal are. A clause of a
 -- view that is wrong would show in few runs; here it shows.
-use mathlib.Core.List.{List, [], _∷_, map}
+use mathlib.Core.List.{List, [], _∷_}
 use mathlib.Core.Bool.{Bool, true, false}
 use Prim.Native.Nat.{ℕ}
 use Rattle.rows.specs.Ascii.{ascii}
@@ -12,7 +12,7 @@ use Rattle.rows.specs.declared.json.Node.the-variants as node
 use Rattle.rows.specs.declared.json.Literal.{Literal}
 use Rattle.rows.specs.declared.json.Literal.the-variants as literal
 use Rattle.graphql.specs.Json.{Json, null, bool, natural, negative, float, string, array, object, noItem, noMember}
-use Rattle.graphql.specs.Values.{NodeForm, isNull, isBool, isOther, LiteralForm, nothing, variable, shaped, single, listed, keyed}
+use Rattle.graphql.specs.Values.{NodeForm, isNull, isBool, isOther, LiteralForm, nullGiven, variable, shaped, single, listed, keyed}
 use Rattle.graphql.specs.Kit.{'Any}
 
 -- the scalars Int, Float, String, Boolean, ID and a custom one
@@ -51,7 +51,7 @@ nodeForms =
 -- a literal, and what it is
 abbrev pub literalForms : List (Literal × LiteralForm)
 literalForms =
-    (literal.Null, nothing) ∷ (literal.False, shaped single) ∷ (literal.True, shaped single) ∷ (literal.Natural 0, shaped single) ∷
+    (literal.Null, nullGiven) ∷ (literal.False, shaped single) ∷ (literal.True, shaped single) ∷ (literal.Natural 0, shaped single) ∷
     (literal.Negative 1, shaped single) ∷ (literal.Float some-text, shaped single) ∷ (literal.String some-text, shaped single) ∷
     (literal.List some-rows, shaped (listed some-rows)) ∷ (literal.Object some-rows, shaped (keyed some-rows)) ∷
     (literal.Enum 7, shaped single) ∷ (literal.Variable 7, variable 7) ∷ []

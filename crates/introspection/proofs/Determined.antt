@@ -1,6 +1,6 @@
 -- The contract of the depth check is made of equations whose right sides the tables determine. Assumes nothing.
-use mathlib.Core.Path.{_≡_, sym, _∙_}
-use Rattle.introspection.specs.MaxDepth.{Answers, DepthCheckDetermined}
+use mathlib.Core.Path.{sym, _∙_}
+use Rattle.introspection.specs.MaxDepth.{DepthCheckDetermined}
 
 pub depthCheckDetermined : DepthCheckDetermined
 depthCheckDetermined T r r' h k = λ i. record {

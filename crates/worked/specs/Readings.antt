@@ -1,4 +1,4 @@
--- Worked runs: what document 01 means where it can be read two ways, each run named after the reading in docs/DECISIONS.md that it
+-- Worked runs: what document 01 means where it can be read two ways, each run named after the reading in docs/READINGS.md that it
 -- shows. Reading 3 is among the error codes, those about limits among the limits, 24 among the orders; a run each of 1 and 12 is told
 -- beside the cases. The schema is the one in Kit.
 use mathlib.Core.List.{List, [], _∷_, _++_}

@@ -12,7 +12,7 @@ use Rattle.graphql.specs.Collect.{Group}
 use Rattle.graphql.specs.Request.{Request}
 use Rattle.graphql.specs.Complete.{numbered}
 use Rattle.graphql.specs.Report.{recordOf, recordsOf}
-use Rattle.graphql.specs.Demand3.{NoneSkipped, under, position, Place, EntryAt, FieldAt, this, later, NullAt, here, inList, inObject, placeOfPath, Explained}
+use Rattle.graphql.specs.Demand3.{NoneSkipped, under, position, Spot, EntryAt, FieldAt, this, later, NullAt, itself, inList, inObject, spotOfPath, Explained}
 use Rattle.graphql.proofs.Meets.{Mono, Each}
 
 module _ (Q : Request) where
@@ -22,34 +22,34 @@ module _ (Q : Request) where
   abbrev pub bytes : ℕ → List ℕ
   bytes n = nameText (Q .tables .pool) (Q .tables .names) n
 
-  path-append : (p p' : Path) → placeOfPath Q (p ++ p') ≡ placeOfPath Q p ++ placeOfPath Q p'
-  unfolding placeOfPath
+  path-append : (p p' : Path) → spotOfPath Q (p ++ p') ≡ spotOfPath Q p ++ spotOfPath Q p'
+  unfolding spotOfPath
   path-append [] p' = refl
-  path-append (name n ∷ p) p' = ap (λ (q : Place). under (bytes n) ∷ q) (path-append p p')
-  path-append (index i ∷ p) p' = ap (λ (q : Place). position i ∷ q) (path-append p p')
+  path-append (name n ∷ p) p' = ap (λ (q : Spot). under (bytes n) ∷ q) (path-append p p')
+  path-append (index i ∷ p) p' = ap (λ (q : Spot). position i ∷ q) (path-append p p')
 
   -- An event that is an error record at the place or below it.
-  pub record Hit (q : Place) (w : Log) : Type 0 where
+  pub record Hit (q : Spot) (w : Log) : Type 0 where
     pub by : ErrorRecord
-    pub below : Place
+    pub below : Spot
     pub logged : List·Mem (err by) w
-    pub prefix : placeOfPath Q (by .path) ≡ q ++ below
+    pub prefix : spotOfPath Q (by .path) ≡ q ++ below
 
-  pub hit-more : (q : Place) → Mono (Hit q)
+  pub hit-more : (q : Spot) → Mono (Hit q)
   hit-more q u w s h = record { by = h .by; below = h .below; logged = s _ (h .logged); prefix = h .prefix }
 
-  pub hit-here : (r : ErrorRecord) → Hit (placeOfPath Q (r .path)) (err r ∷ [])
-  hit-here r = record { by = r; below = []; logged = mem-cons-self; prefix = sym (append-nil (placeOfPath Q (r .path))) }
+  pub hit-here : (r : ErrorRecord) → Hit (spotOfPath Q (r .path)) (err r ∷ [])
+  hit-here r = record { by = r; below = []; logged = mem-cons-self; prefix = sym (append-nil (spotOfPath Q (r .path))) }
 
-  pub hit-up : (p : Path) (s : Segment) (w : Log) → Hit (placeOfPath Q (p ++ (s ∷ []))) w → Hit (placeOfPath Q p) w
+  pub hit-up : (p : Path) (s : Segment) (w : Log) → Hit (spotOfPath Q (p ++ (s ∷ []))) w → Hit (spotOfPath Q p) w
   hit-up p s w h = record {
     by = h .by;
-    below = placeOfPath Q (s ∷ []) ++ h .below;
+    below = spotOfPath Q (s ∷ []) ++ h .below;
     logged = h .logged;
-    prefix = h .prefix ∙ (ap (λ (q : Place). q ++ h .below) (path-append p (s ∷ [])) ∙ append-assoc (placeOfPath Q p) (placeOfPath Q (s ∷ [])) (h .below));
+    prefix = h .prefix ∙ (ap (λ (q : Spot). q ++ h .below) (path-append p (s ∷ [])) ∙ append-assoc (spotOfPath Q p) (spotOfPath Q (s ∷ [])) (h .below));
   }
 
-  pub hit-explained : (q : Place) (w : Log) → Hit q w → Explained Q q w
+  pub hit-explained : (q : Spot) (w : Log) → Hit q w → Explained Q q w
   unfolding recordsOf recordOf
   hit-explained q w h = record {
     by = h .by;
@@ -61,98 +61,98 @@ module _ (Q : Request) where
   -- ---- Values at a place
 
   -- Each null of `d`, which stands at `q`, that no resolver answered has its record.
-  pub record Covered (q : Place) (d : Data) (w : Log) : Type 0 where
-    pub hit : (r : Place) → NullAt d r → Hit (q ++ r) w
+  pub record Covered (q : Spot) (d : Data) (w : Log) : Type 0 where
+    pub hit : (r : Spot) → NullAt d r → Hit (q ++ r) w
 
-  covered-more : (q : Place) (d : Data) → Mono (Covered q d)
+  covered-more : (q : Spot) (d : Data) → Mono (Covered q d)
   covered-more q d u w s h = record { hit = λ r x. hit-more (q ++ r) u w s (h .hit r x) }
 
-  leaf-hit : (q : Place) (j : Json) (w : Log) (r : Place) → NullAt (leaf j) r → Hit (q ++ r) w
+  leaf-hit : (q : Spot) (j : Json) (w : Log) (r : Spot) → NullAt (leaf j) r → Hit (q ++ r) w
   leaf-hit q j w r x = elim x [ ]
 
-  pub covered-leaf : (q : Place) (j : Json) (w : Log) → Covered q (leaf j) w
+  pub covered-leaf : (q : Spot) (j : Json) (w : Log) → Covered q (leaf j) w
   covered-leaf q j w = record { hit = leaf-hit q j w }
 
-  null-hit : (q : Place) (w : Log) → Hit q w → (r : Place) → NullAt nulled r → Hit (q ++ r) w
-  null-hit q w h r here = rw append-nil h
+  null-hit : (q : Spot) (w : Log) → Hit q w → (r : Spot) → NullAt nulled r → Hit (q ++ r) w
+  null-hit q w h r itself = rw append-nil h
 
-  pub covered-null : (q : Place) (w : Log) → Hit q w → Covered q nulled w
+  pub covered-null : (q : Spot) (w : Log) → Hit q w → Covered q nulled w
   covered-null q w h = record { hit = null-hit q w h }
 
   -- A field's value, which may be left out.
-  abbrev pub FieldHere : Place → Val → Log → Type 0
+  abbrev pub FieldHere : Spot → Val → Log → Type 0
   FieldHere q absent w = Unit
   FieldHere q (val d) w = NoneSkipped w → Covered q d w
 
   -- An item's value, which is left out only if it is skipped.
-  abbrev pub PresentHere : Place → Val → Log → Type 0
+  abbrev pub PresentHere : Spot → Val → Log → Type 0
   PresentHere q absent w = NoneSkipped w → ⊥
   PresentHere q (val d) w = NoneSkipped w → Covered q d w
 
   -- An object's.
-  abbrev pub DataHere : Place → Data → Log → Type 0
+  abbrev pub DataHere : Spot → Data → Log → Type 0
   DataHere q d w = NoneSkipped w → Covered q d w
 
   none-less : (u w : Log) → Subset u w → NoneSkipped w → NoneSkipped u
   none-less u w s h = record { none-at = λ p m. h .none-at p (s _ m) }
 
-  pub data-more : (q : Place) (d : Data) → Mono (DataHere q d)
+  pub data-more : (q : Spot) (d : Data) → Mono (DataHere q d)
   data-more q d u w s h = λ k. covered-more q d u w s (h (none-less u w s k))
 
-  pub field-more : (q : Place) (v : Val) → Mono (FieldHere q v)
+  pub field-more : (q : Spot) (v : Val) → Mono (FieldHere q v)
   field-more q absent u w s h = tt
   field-more q (val d) u w s h = data-more q d u w s h
 
-  pub present-more : (q : Place) (v : Val) → Mono (PresentHere q v)
+  pub present-more : (q : Spot) (v : Val) → Mono (PresentHere q v)
   present-more q absent u w s h = λ k. h (none-less u w s k)
   present-more q (val d) u w s h = data-more q d u w s h
 
-  pub present-field : (q : Place) (v : Val) (w : Log) → PresentHere q v w → FieldHere q v w
+  pub present-field : (q : Spot) (v : Val) (w : Log) → PresentHere q v w → FieldHere q v w
   present-field q absent w h = tt
   present-field q (val d) w h = h
 
   -- the place of a part is that of the whole and one step more
-  under-place : (p : Path) (n : ℕ) (r : Place) → placeOfPath Q (p ++ (name n ∷ [])) ++ r ≡ placeOfPath Q p ++ (under (bytes n) ∷ r)
-  unfolding placeOfPath
-  under-place p n r = ap (λ (q : Place). q ++ r) (path-append p (name n ∷ [])) ∙ append-assoc (placeOfPath Q p) (under (bytes n) ∷ []) r
+  under-place : (p : Path) (n : ℕ) (r : Spot) → spotOfPath Q (p ++ (name n ∷ [])) ++ r ≡ spotOfPath Q p ++ (under (bytes n) ∷ r)
+  unfolding spotOfPath
+  under-place p n r = ap (λ (q : Spot). q ++ r) (path-append p (name n ∷ [])) ∙ append-assoc (spotOfPath Q p) (under (bytes n) ∷ []) r
 
-  at-place : (p : Path) (i : ℕ) (r : Place) → placeOfPath Q (p ++ (index i ∷ [])) ++ r ≡ placeOfPath Q p ++ (position i ∷ r)
-  unfolding placeOfPath
-  at-place p i r = ap (λ (q : Place). q ++ r) (path-append p (index i ∷ [])) ∙ append-assoc (placeOfPath Q p) (position i ∷ []) r
+  at-place : (p : Path) (i : ℕ) (r : Spot) → spotOfPath Q (p ++ (index i ∷ [])) ++ r ≡ spotOfPath Q p ++ (position i ∷ r)
+  unfolding spotOfPath
+  at-place p i r = ap (λ (q : Spot). q ++ r) (path-append p (index i ∷ [])) ∙ append-assoc (spotOfPath Q p) (position i ∷ []) r
 
   -- what is said of a group's value, and of an item's, in what stands at `p`
   abbrev pub InGroup : Path → Group → Val → Log → Type 0
-  InGroup p g = FieldHere (placeOfPath Q (p ++ (name (g .key) ∷ [])))
+  InGroup p g = FieldHere (spotOfPath Q (p ++ (name (g .key) ∷ [])))
 
   abbrev pub InList : Path → ℕ × ℕ → Val → Log → Type 0
-  InList p ia = PresentHere (placeOfPath Q (p ++ (index (ia .0) ∷ [])))
+  InList p ia = PresentHere (spotOfPath Q (p ++ (index (ia .0) ∷ [])))
 
   abbrev pub keys : List Group → List (List ℕ)
   keys gs = map (λ (g : Group). bytes (g .key)) gs
 
   field-hit : (p : Path) (gs : List Group) (vs : List Val) (w : Log) → NoneSkipped w → Each (InGroup p) gs vs w
-      → {k : List ℕ} {d : Data} → FieldAt (fields (keys gs) vs) k d → (r : Place) → NullAt d r → Hit (placeOfPath Q p ++ (under k ∷ r)) w
+      → {k : List ℕ} {d : Data} → FieldAt (fields (keys gs) vs) k d → (r : Spot) → NullAt d r → Hit (spotOfPath Q p ++ (under k ∷ r)) w
   unfolding fields
   field-hit p [] vs w n h x r s = elim x [ ]
   field-hit p (g ∷ gs) [] w n h x r s = elim x [ ]
   field-hit p (g ∷ gs) (absent ∷ vs) w n h x r s = field-hit p gs vs w n (h .1) x r s
-  field-hit p (g ∷ gs) (val d ∷ vs) w n h this r s = subst (λ (q : Place). Hit q w) (under-place p (g .key) r) (h .0 n .hit r s)
+  field-hit p (g ∷ gs) (val d ∷ vs) w n h this r s = subst (λ (q : Spot). Hit q w) (under-place p (g .key) r) (h .0 n .hit r s)
   field-hit p (g ∷ gs) (val d ∷ vs) w n h (later x) r s = field-hit p gs vs w n (h .1) x r s
 
   entry-hit : (p : Path) (i : ℕ) (rows : List ℕ) (vs : List Val) (w : Log) → NoneSkipped w → Each (InList p) (numbered i rows) vs w
-      → {k : ℕ} {d : Data} → EntryAt i (entries vs) k d → (r : Place) → NullAt d r → Hit (placeOfPath Q p ++ (position k ∷ r)) w
+      → {k : ℕ} {d : Data} → EntryAt i (entries vs) k d → (r : Spot) → NullAt d r → Hit (spotOfPath Q p ++ (position k ∷ r)) w
   unfolding entries numbered
   entry-hit p i [] [] w n h x r s = elim x [ ]
   entry-hit p i [] (v ∷ vs) w n h x r s = absurd h
   entry-hit p i (a ∷ rows) [] w n h x r s = elim x [ ]
   entry-hit p i (a ∷ rows) (absent ∷ vs) w n h x r s = absurd (h .0 n)
-  entry-hit p i (a ∷ rows) (val d ∷ vs) w n h this r s = subst (λ (q : Place). Hit q w) (at-place p i r) (h .0 n .hit r s)
+  entry-hit p i (a ∷ rows) (val d ∷ vs) w n h this r s = subst (λ (q : Spot). Hit q w) (at-place p i r) (h .0 n .hit r s)
   entry-hit p i (a ∷ rows) (val d ∷ vs) w n h (later x) r s = entry-hit p (suc i) rows vs w n (h .1) x r s
 
   pub object-hit : (p : Path) (gs : List Group) (vs : List Val) (w : Log) → NoneSkipped w → Each (InGroup p) gs vs w
-      → (r : Place) → NullAt (object (fields (keys gs) vs)) r → Hit (placeOfPath Q p ++ r) w
+      → (r : Spot) → NullAt (object (fields (keys gs) vs)) r → Hit (spotOfPath Q p ++ r) w
   object-hit p gs vs w n h r (inObject x s) = field-hit p gs vs w n h x _ s
 
   pub list-hit : (p : Path) (rows : List ℕ) (vs : List Val) (w : Log) → NoneSkipped w → Each (InList p) (numbered 0 rows) vs w
-      → (r : Place) → NullAt (list (entries vs)) r → Hit (placeOfPath Q p ++ r) w
+      → (r : Spot) → NullAt (list (entries vs)) r → Hit (spotOfPath Q p ++ r) w
   list-hit p rows vs w n h r (inList x s) = entry-hit p 0 rows vs w n h x _ s
