@@ -16,7 +16,11 @@ use Rattle.rows.specs.Document.{fragmentAt}
 use Rattle.graphql.specs.Lookup.{rowsFrom, fragmentNamed}
 use Rattle.graphql.specs.Depth.{Rises, riseOf}
 use Rattle.introspection.specs.MaxDepth.{Marked, markOf}
-use Rattle.introspection.proofs.Found.{named, find-passes, find-below}
+use Rattle.lookup.proofs.Searching.{find-passes, find-below}
+
+-- the fragment has this name
+abbrev named : List ℕ → ℕ → ℕ → Bool
+named fragments name row = eqb (fragmentAt fragments row .name) name
 
 module _ (fragments : List ℕ) where
   -- the row of a name is one of the fragments', and has that name

@@ -22,7 +22,8 @@ use Rattle.rows.proofs.Every.{falsified, verified}
 use Rattle.graphql.specs.Lookup.{rowsFrom, rowsIn, selectionsOf, fragmentNamed}
 use Rattle.graphql.specs.Depth.{Rises, andThen, childSet, checkField, metAgain, remembered, checkFragment, checkSpread, checkSelected, checkSelections, checkSet}
 use Rattle.graphql.specs.Depth as defined
-use Rattle.introspection.specs.MaxDepth.{rowOf, Marked, Checks, Walkable, ChecksSet, ChecksSelection, ChecksField, ChecksChild, ChecksSpread}
+use Rattle.lookup.specs.Found.{rowOf}
+use Rattle.introspection.specs.MaxDepth.{Marked, Checks, Walkable, ChecksSet, ChecksSelection, ChecksField, ChecksChild, ChecksSpread}
 use Rattle.introspection.specs.declared.max_depth.Checked.{Checked}
 use Rattle.introspection.specs.declared.max_depth.Checked.the-variants.{TooManySets, TooDeep, Depth}
 use Rattle.introspection.proofs.Ends.{level, refused, like, Stopped, stopped, came}

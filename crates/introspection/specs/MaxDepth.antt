@@ -8,8 +8,6 @@ use Rattle.rows.specs.Layout.{fragmentWidth}
 use Rattle.rows.specs.Rows.{rowsOf}
 use Rattle.rows.specs.Document.{setAt, selectionAt}
 use Rattle.rows.specs.declared.document.FieldSelection.{FieldSelection}
-use Rattle.rows.specs.declared.layout.Optional.{Optional}
-use Rattle.rows.specs.declared.layout.Optional.the-variants.{Absent, Row}
 use Rattle.tables.specs.Tables.{Tables}
 use Rattle.graphql.specs.Lookup.{fragmentNamed}
 use Rattle.graphql.specs.Depth.{Rises, riseOf, DepthReport, depthReport, childSet, checkField, checkSpread, checkSelected, checkSet}
@@ -27,10 +25,6 @@ pub record Answers (r : DepthAnswer) (report : DepthReport) : Type 0 where
 -- "Prove that two results allowed by it are equal"
 abbrev pub DepthCheckDetermined : Type 0
 DepthCheckDetermined = (T : Tables) (r r' : DepthAnswer) → Answers r (depthReport T) → Answers r' (depthReport T) → r ≡ r'
-
-abbrev pub rowOf : Option ℕ → Optional
-rowOf none = Absent
-rowOf (some row) = Row row
 
 -- how the code says what the definition says; the rises are said by the marks
 abbrev pub said : defined.Checked → Checked

@@ -7,11 +7,10 @@ ghost use lib.Dec.{leb};
 ghost use lib.ListN.{replicate};
 ghost use Rattle.tables.specs.Tables.{tables};
 ghost use Rattle.rows.specs.Names.{'fields, 'inputFields};
-ghost use Rattle.graphql.specs.Lookup.{fragmentNamed};
 ghost use Rattle.graphql.specs.Depth.{checkSet, answered, depthReport};
-ghost use Rattle.introspection.specs.MaxDepth.{Answers, rowOf, meant, Walkable, ChecksSet, ChecksSelection, ChecksField, ChecksChild, ChecksSpread};
+ghost use Rattle.introspection.specs.MaxDepth.{Answers, meant, Walkable, ChecksSet, ChecksSelection, ChecksField, ChecksChild, ChecksSpread};
 use graphql::outcome::Outcome;
-use rows::document::FRAGMENT_WIDTH;
+use lookup::named::fragment_named;
 use rows::document::FieldSelection;
 use rows::document::Selected;
 use rows::document::fragment_at;
@@ -19,7 +18,6 @@ use rows::document::selection_at;
 use rows::document::set_at;
 use rows::layout::Optional;
 use rows::layout::both;
-use rows::layout::row_count;
 use tables::check::LAWFUL;
 use tables::check::table_check;
 
@@ -68,22 +66,6 @@ fn is_list(name: u32) -> bool
     ensures { λ r. ⌜ r ≡ (leb 'fields name && leb name 'inputFields) ⌝ }
 {
     both(FIRST_LIST <= name, name <= LAST_LIST)
-}
-
-// The first fragment of this name.
-fn find_fragment(fragments: &[u32], name: u32) -> Optional
-    ensures { λ r. ⌜ r ≡ rowOf (fragmentNamed (now (fragments .entry)) name) ⌝ }
-{
-    let count = row_count(fragments, FRAGMENT_WIDTH);
-    let mut row: u32 = 0;
-    while row < count {
-        let fragment = fragment_at(fragments, row);
-        if fragment.name == name {
-            return Optional::Row(row);
-        }
-        row += 1;
-    }
-    Optional::Absent
 }
 
 // `room` is how many sets may still be opened. `marks` has for each fragment 0 where it was not met, and otherwise one
@@ -240,7 +222,7 @@ fn check_spread(
     requires { ⌜ Walkable (now sets) (now fragments) (now marks) «depth_so_far» ⌝ }
     ensures { λ r. ⌜ ChecksSpread (now (sets .entry)) (now (selections .entry)) (now (fragments .entry)) (now (marks .entry)) room place name «depth_so_far» r (now (marks .exit)) ⌝ }
 {
-    let found = find_fragment(fragments, name);
+    let found = fragment_named(fragments, name);
     let Optional::Row(row) = found else {
         return Checked::Depth(depth_so_far);
     };

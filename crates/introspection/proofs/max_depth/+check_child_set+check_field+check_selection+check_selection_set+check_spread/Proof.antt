@@ -21,7 +21,7 @@ use Rattle.introspection.proofs.max_depth.+check_child_set+check_field+
 use Rattle.introspection.proofs.max_depth.check_spread.Reads as check-spread
 use Rattle.introspection.proofs.max_depth.check_spread.Kinds as check-spread-kinds
 use Rattle.introspection.proofs.max_depth.+check_child_set+check_field+check_selection+check_selection_set+check_spread.Lts-check_spread as check-spread-lts
-use Rattle.introspection.proofs.max_depth.find_fragment.Reads as find-fragment-reads
+use Rattle.lookup.proofs.named.fragment_named.Reads as fragment-named-reads
 use Rattle.introspection.proofs.max_depth.is_list.Reads as is-list-reads
 use Rattle.introspection.proofs.max_depth.larger.Reads as larger-reads
 use Rattle.introspection.proofs.max_depth.rise.Reads as rise-reads
@@ -217,8 +217,8 @@ pub +check-child-set+check-field+check-selection+check-selection-set+check-sprea
     (λ c. search walk)
     (λ c. search walk))
     λ t. check-spread-lts.spec (
-      find-fragment-reads.Asked,
-      find-fragment-reads.Learnt,
+      fragment-named-reads.Asked,
+      fragment-named-reads.Learnt,
       fragment-at-reads.Asked,
       fragment-at-reads.Learnt,
       check-selection-set-below t,
