@@ -173,7 +173,7 @@ fn is_larger_than(set: u32, owned: Optional) -> bool
     }
 }
 
-fn child_is_larger(selections: &[u32], set: u32, row: usize) -> bool
+pub fn child_is_larger(selections: &[u32], set: u32, row: usize) -> bool
     requires { ⌜ row < 2 ^ 40 ⌝ }
     ensures { λ r. ⌜ r ≡ childLarger (now (selections .entry)) set row ⌝ }
 {

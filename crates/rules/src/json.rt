@@ -1,5 +1,7 @@
 // What JSON nodes, literals and the values of variables have to obey.
 ghost use mathlib.Core.Path.{_≡_};
+ghost use mathlib.Core.Bool.{true};
+ghost use Rattle.text.specs.Utf8.{isUtf8};
 ghost use Rattle.rules.specs.Json.{isNegative, nodeLawful, nodeRow, nodeKeyRow, literalLawful, literalRow, literalParts, literalKeysDiffer, variableRow, variableNameNew};
 use crate::layout::is_distinct;
 use crate::layout::is_later;
@@ -24,7 +26,8 @@ fn is_negative(low: u32, high: u32) -> bool
     (1 <= magnitude) & (magnitude <= 9223372036854775808)
 }
 
-fn node_is_lawful(pool: &[u8], nodes: u32, row: u32, node: Node) -> bool
+fn node_is_lawful(pool: &[u8], whole: bool, nodes: u32, row: u32, node: Node) -> bool
+    requires { ⌜ (whole ≡ true → isUtf8 (now pool) ≡ true) ⌝ }
     ensures { λ r. ⌜ r ≡ nodeLawful (now (pool .entry)) nodes row node ⌝ }
 {
     match node {
@@ -34,27 +37,30 @@ fn node_is_lawful(pool: &[u8], nodes: u32, row: u32, node: Node) -> bool
         Node::Natural { low: _, high: _ } => true,
         Node::Negative { low, high } => is_negative(low, high),
         Node::Float(text) => is_float_text(pool, text),
-        Node::String(text) => is_string(pool, text),
+        Node::String(text) => is_string(pool, whole, text),
         Node::Array(rows) => is_later(nodes, row, rows),
         Node::Object(rows) => is_later(nodes, row, rows),
         Node::Unknown => false,
     }
 }
 
-// `count` is how many nodes there are.
-pub fn node_row(pool: &[u8], count: u32, nodes: &[u32], row: u32) -> bool
+// `count` is how many nodes there are; `whole`, that the pool is known to be UTF-8 as a whole.
+pub fn node_row(pool: &[u8], whole: bool, count: u32, nodes: &[u32], row: u32) -> bool
+    requires { ⌜ (whole ≡ true → isUtf8 (now pool) ≡ true) ⌝ }
     ensures { λ r. ⌜ r ≡ nodeRow (now (pool .entry)) count (now (nodes .entry)) row ⌝ }
 {
-    node_is_lawful(pool, count, row, node_at(nodes, row))
+    node_is_lawful(pool, whole, count, row, node_at(nodes, row))
 }
 
-pub fn node_key_row(pool: &[u8], nodes: &[u32], row: u32) -> bool
+pub fn node_key_row(pool: &[u8], whole: bool, nodes: &[u32], row: u32) -> bool
+    requires { ⌜ (whole ≡ true → isUtf8 (now pool) ≡ true) ⌝ }
     ensures { λ r. ⌜ r ≡ nodeKeyRow (now (pool .entry)) (now (nodes .entry)) row ⌝ }
 {
-    is_string(pool, node_key(nodes, row as usize))
+    is_string(pool, whole, node_key(nodes, row as usize))
 }
 
-fn literal_is_lawful(pool: &[u8], names: u32, literals: u32, row: u32, literal: Literal) -> bool
+fn literal_is_lawful(pool: &[u8], whole: bool, names: u32, literals: u32, row: u32, literal: Literal) -> bool
+    requires { ⌜ (whole ≡ true → isUtf8 (now pool) ≡ true) ⌝ }
     ensures { λ r. ⌜ r ≡ literalLawful (now (pool .entry)) names literals row literal ⌝ }
 {
     match literal {
@@ -64,7 +70,7 @@ fn literal_is_lawful(pool: &[u8], names: u32, literals: u32, row: u32, literal: 
         Literal::Natural(n) => n < 2147483648,
         Literal::Negative(m) => (1 <= m) & (m <= 2147483648),
         Literal::Float(text) => is_float_text(pool, text),
-        Literal::String(text) => is_string(pool, text),
+        Literal::String(text) => is_string(pool, whole, text),
         Literal::List(rows) => is_later(literals, row, rows),
         Literal::Object(rows) => is_later(literals, row, rows),
         Literal::Enum(name) => name < names,
@@ -73,11 +79,12 @@ fn literal_is_lawful(pool: &[u8], names: u32, literals: u32, row: u32, literal: 
     }
 }
 
-// `count` is how many literals there are.
-pub fn literal_row(pool: &[u8], names: u32, count: u32, literals: &[u32], row: u32) -> bool
+// `count` is how many literals there are; `whole`, that the pool is known to be UTF-8 as a whole.
+pub fn literal_row(pool: &[u8], whole: bool, names: u32, count: u32, literals: &[u32], row: u32) -> bool
+    requires { ⌜ (whole ≡ true → isUtf8 (now pool) ≡ true) ⌝ }
     ensures { λ r. ⌜ r ≡ literalRow (now (pool .entry)) names count (now (literals .entry)) row ⌝ }
 {
-    let lawful = literal_is_lawful(pool, names, count, row, literal_at(literals, row));
+    let lawful = literal_is_lawful(pool, whole, names, count, row, literal_at(literals, row));
     (literal_key(literals, row) < names) & lawful
 }
 
