@@ -20,7 +20,7 @@ use crate::strings::is_same;
 use crate::strings::text_of;
 
 // The children of an object; any other node has no keys.
-pub fn object_rows(node: Node) -> Range
+fn object_rows(node: Node) -> Range
     ensures { λ r. ⌜ r ≡ objectRows node ⌝ }
 {
     if let Node::Object(rows) = node {
