@@ -16,7 +16,7 @@ pub(crate) fn is_in_pool(pool: &[u8], text: Text) -> bool
 }
 
 // Where the pool is known to be UTF-8 as a whole, a string's two ends say whether it is.
-pub(crate) fn is_string(pool: &[u8], whole: bool, text: Text) -> bool
+pub fn is_string(pool: &[u8], whole: bool, text: Text) -> bool
     requires { ⌜ (whole ≡ true → isUtf8 (now pool) ≡ true) ⌝ }
     ensures { λ r. ⌜ r ≡ isString (now (pool .entry)) text ⌝ }
 {

@@ -42,15 +42,46 @@ fn rows_are_lawful(
     ensures { λ r. ⌜ r ≡ rowsLawful (tables (now (pool .entry)) (now (names .entry)) (now («type_refs» .entry)) (now (types .entry)) (now (members .entry)) (now (fields .entry)) (now (arguments .entry)) (now (sets .entry)) (now (selections .entry)) (now (given .entry)) (now (fragments .entry)) (now (nodes .entry)) (now (literals .entry)) (now (variables .entry)) (now (answers .entry)) root) ⌝ }
 {
     if !tables_are_sized(
-        pool, names, type_refs, types, fields, arguments, sets, selections, given, fragments, nodes, literals, variables, answers,
+        pool,
+        names,
+        type_refs,
+        types,
+        fields,
+        arguments,
+        sets,
+        selections,
+        given,
+        fragments,
+        nodes,
+        literals,
+        variables,
+        answers,
     ) {
         return false;
     }
     let name_count = row_count(names, NAME_WIDTH);
     let type_ref_count = row_count(type_refs, TYPE_REF_WIDTH);
     let literal_count = row_count(literals, LITERAL_WIDTH);
-    schema_is_lawful(pool, names, type_refs, types, members, fields, arguments, literal_count, root)
-        && document_is_lawful(name_count, type_ref_count, sets, selections, given, fragments, literal_count)
+    schema_is_lawful(
+        pool,
+        names,
+        type_refs,
+        types,
+        members,
+        fields,
+        arguments,
+        literal_count,
+        root,
+    )
+        && document_is_lawful(
+            name_count,
+            type_ref_count,
+            sets,
+            selections,
+            given,
+            fragments,
+            literal_count,
+        )
         && values_are_lawful(pool, name_count, nodes, literals, variables, answers)
 }
 

@@ -3,25 +3,23 @@ use distinct::columns::is_distinct_column;
 use distinct::columns::is_distinct_since;
 use distinct::columns::note_since;
 use distinct::names::all_names_differ;
+use rows::layout::Range;
 use rows::layout::row_count;
-use rows::limits::MOST_ARGUMENTS;
-use rows::limits::MOST_FIELDS;
+use rows::layout::word;
 use rows::names::NAME_WIDTH;
 use rows::schema::ARGUMENT_WIDTH;
 use rows::schema::FIELD_WIDTH;
 use rows::schema::MEMBER_WIDTH;
 use rows::schema::TYPE_REF_WIDTH;
 use rows::schema::TYPE_WIDTH;
-use rows::schema::field_at;
 use rows::schema::type_at;
 use rules::names::name_is_reserved;
 use rules::names::name_is_spelled;
-use rules::schema::argument_row;
-use rules::schema::field_row;
-use rules::schema::member_row;
+use rules::schema::field_is_lawful;
+use rules::schema::is_typed;
 use rules::schema::root_is_object;
 use rules::schema::type_parts;
-use rules::schema::type_ref_row;
+use rules::schema::type_ref_is_lawful;
 use rules::schema::type_row;
 
 fn name_holds(pool: &[u8], names: &[u32], row: u32) -> bool {
@@ -39,11 +37,18 @@ fn each_name_holds(pool: &[u8], names: &[u32], count: u32) -> bool {
     true
 }
 
+fn type_ref_holds(names: u32, type_refs: &[u32], row: u32) -> bool {
+    let kind = word(type_refs, TYPE_REF_WIDTH, row, 0);
+    let non_null = word(type_refs, TYPE_REF_WIDTH, row, 1);
+    let of = word(type_refs, TYPE_REF_WIDTH, row, 2);
+    type_ref_is_lawful(names, row, kind, non_null, of)
+}
+
 fn each_type_ref_holds(names: u32, type_refs: &[u32]) -> bool {
     let count = row_count(type_refs, TYPE_REF_WIDTH);
     let mut row: u32 = 0;
     while row < count {
-        if !type_ref_row(names, type_refs, row) {
+        if !type_ref_holds(names, type_refs, row) {
             return false;
         }
         row += 1;
@@ -54,7 +59,7 @@ fn each_type_ref_holds(names: u32, type_refs: &[u32]) -> bool {
 fn each_member_holds(names: u32, members: &[u32], count: u32) -> bool {
     let mut row: u32 = 0;
     while row < count {
-        if !member_row(names, members, row) {
+        if names <= word(members, MEMBER_WIDTH, row, 0) {
             return false;
         }
         row += 1;
@@ -62,10 +67,23 @@ fn each_member_holds(names: u32, members: &[u32], count: u32) -> bool {
     true
 }
 
-fn each_argument_holds(names: u32, type_refs: u32, literals: u32, arguments: &[u32], count: u32) -> bool {
+fn argument_holds(names: u32, type_refs: u32, literals: u32, arguments: &[u32], row: u32) -> bool {
+    let name = word(arguments, ARGUMENT_WIDTH, row, 0);
+    let ty = word(arguments, ARGUMENT_WIDTH, row, 1);
+    let default = word(arguments, ARGUMENT_WIDTH, row, 2);
+    is_typed(names, type_refs, literals, name, ty, default)
+}
+
+fn each_argument_holds(
+    names: u32,
+    type_refs: u32,
+    literals: u32,
+    arguments: &[u32],
+    count: u32,
+) -> bool {
     let mut row: u32 = 0;
     while row < count {
-        if !argument_row(names, type_refs, literals, arguments, row) {
+        if !argument_holds(names, type_refs, literals, arguments, row) {
             return false;
         }
         row += 1;
@@ -73,20 +91,63 @@ fn each_argument_holds(names: u32, type_refs: u32, literals: u32, arguments: &[u
     true
 }
 
-fn field_holds(names: u32, type_refs: u32, count: u32, literals: u32, fields: &[u32], arguments: &[u32], since: &[u16], known: usize, row: u32) -> bool {
-    let field = field_at(fields, row);
-    let its_arguments = field.arguments;
-    let lawful = field_row(names, type_refs, count, literals, fields, row);
-    if !lawful {
+fn field_holds(
+    names: u32,
+    type_refs: u32,
+    count: u32,
+    literals: u32,
+    fields: &[u32],
+    arguments: &[u32],
+    since: &[u16],
+    known: usize,
+    row: u32,
+) -> bool {
+    let name = word(fields, FIELD_WIDTH, row, 0);
+    let ty = word(fields, FIELD_WIDTH, row, 1);
+    let default = word(fields, FIELD_WIDTH, row, 2);
+    let its_arguments = Range {
+        first: word(fields, FIELD_WIDTH, row, 4),
+        count: word(fields, FIELD_WIDTH, row, 5),
+    };
+    if !field_is_lawful(
+        names,
+        type_refs,
+        count,
+        literals,
+        name,
+        ty,
+        default,
+        its_arguments,
+    ) {
         return false;
     }
     is_distinct_since(arguments, ARGUMENT_WIDTH, 0, since, known, its_arguments)
 }
 
-fn each_field_holds(names: u32, type_refs: u32, argument_count: u32, literals: u32, fields: &[u32], count: u32, arguments: &[u32], since: &[u16], known: usize) -> bool {
+fn each_field_holds(
+    names: u32,
+    type_refs: u32,
+    argument_count: u32,
+    literals: u32,
+    fields: &[u32],
+    count: u32,
+    arguments: &[u32],
+    since: &[u16],
+    known: usize,
+) -> bool {
     let mut row: u32 = 0;
     while row < count {
-        if !field_holds(names, type_refs, argument_count, literals, fields, arguments, since, known, row) {
+        if !field_holds(
+            names,
+            type_refs,
+            argument_count,
+            literals,
+            fields,
+            arguments,
+            since,
+            known,
+            row,
+        ) {
             return false;
         }
         row += 1;
@@ -94,13 +155,40 @@ fn each_field_holds(names: u32, type_refs: u32, argument_count: u32, literals: u
     true
 }
 
-fn fields_hold(names: u32, type_refs: u32, argument_count: u32, literals: u32, fields: &[u32], count: u32, arguments: &[u32]) -> bool {
+fn fields_hold(
+    names: u32,
+    type_refs: u32,
+    argument_count: u32,
+    literals: u32,
+    fields: &[u32],
+    count: u32,
+    arguments: &[u32],
+) -> bool {
     let mut since = [0u16; 1025];
     let known = note_since(arguments, ARGUMENT_WIDTH, 0, &mut since);
-    each_field_holds(names, type_refs, argument_count, literals, fields, count, arguments, &since, known)
+    each_field_holds(
+        names,
+        type_refs,
+        argument_count,
+        literals,
+        fields,
+        count,
+        arguments,
+        &since,
+        known,
+    )
 }
 
-fn type_holds(names: u32, members: u32, field_count: u32, types: &[u32], fields: &[u32], since: &[u16], known: usize, row: u32) -> bool {
+fn type_holds(
+    names: u32,
+    members: u32,
+    field_count: u32,
+    types: &[u32],
+    fields: &[u32],
+    since: &[u16],
+    known: usize,
+    row: u32,
+) -> bool {
     let ty = type_at(types, row);
     let its_fields = ty.fields;
     let lawful = type_row(names, members, field_count, types, row) & type_parts(types, row);
@@ -110,11 +198,28 @@ fn type_holds(names: u32, members: u32, field_count: u32, types: &[u32], fields:
     is_distinct_since(fields, FIELD_WIDTH, 0, since, known, its_fields)
 }
 
-fn each_type_holds(names: u32, members: u32, field_count: u32, types: &[u32], fields: &[u32], since: &[u16], known: usize) -> bool {
+fn each_type_holds(
+    names: u32,
+    members: u32,
+    field_count: u32,
+    types: &[u32],
+    fields: &[u32],
+    since: &[u16],
+    known: usize,
+) -> bool {
     let count = row_count(types, TYPE_WIDTH);
     let mut row: u32 = 0;
     while row < count {
-        if !type_holds(names, members, field_count, types, fields, since, known, row) {
+        if !type_holds(
+            names,
+            members,
+            field_count,
+            types,
+            fields,
+            since,
+            known,
+            row,
+        ) {
             return false;
         }
         row += 1;
@@ -128,7 +233,17 @@ fn types_hold(names: u32, members: u32, field_count: u32, types: &[u32], fields:
     each_type_holds(names, members, field_count, types, fields, &since, known)
 }
 
-pub(crate) fn schema_is_lawful(pool: &[u8], names: &[u32], type_refs: &[u32], types: &[u32], members: &[u32], fields: &[u32], arguments: &[u32], literals: u32, root: u32) -> bool {
+pub(crate) fn schema_is_lawful(
+    pool: &[u8],
+    names: &[u32],
+    type_refs: &[u32],
+    types: &[u32],
+    members: &[u32],
+    fields: &[u32],
+    arguments: &[u32],
+    literals: u32,
+    root: u32,
+) -> bool {
     let name_count = row_count(names, NAME_WIDTH);
     let type_ref_count = row_count(type_refs, TYPE_REF_WIDTH);
     let member_count = row_count(members, MEMBER_WIDTH);
@@ -138,8 +253,22 @@ pub(crate) fn schema_is_lawful(pool: &[u8], names: &[u32], type_refs: &[u32], ty
         && all_names_differ(pool, names)
         && each_type_ref_holds(name_count, type_refs)
         && each_member_holds(name_count, members, member_count)
-        && each_argument_holds(name_count, type_ref_count, literals, arguments, argument_count)
-        && fields_hold(name_count, type_ref_count, argument_count, literals, fields, field_count, arguments)
+        && each_argument_holds(
+            name_count,
+            type_ref_count,
+            literals,
+            arguments,
+            argument_count,
+        )
+        && fields_hold(
+            name_count,
+            type_ref_count,
+            argument_count,
+            literals,
+            fields,
+            field_count,
+            arguments,
+        )
         && types_hold(name_count, member_count, field_count, types, fields)
         && is_distinct_column(types, TYPE_WIDTH, 0)
         && root_is_object(types, root)

@@ -18,8 +18,8 @@ use rows::limits::MOST_NAMES;
 use rows::limits::MOST_NODES;
 use rows::limits::MOST_ROWS;
 use rows::limits::MOST_SELECTIONS;
-use rows::limits::MOST_TYPES;
 use rows::limits::MOST_TYPE_REFS;
+use rows::limits::MOST_TYPES;
 use rows::limits::MOST_VARIABLES;
 use rows::names::NAME_WIDTH;
 use rows::schema::ARGUMENT_WIDTH;
@@ -28,7 +28,14 @@ use rows::schema::TYPE_REF_WIDTH;
 use rows::schema::TYPE_WIDTH;
 use rules::layout::is_counted;
 
-fn schema_is_sized(pool: &[u8], names: &[u32], type_refs: &[u32], types: &[u32], fields: &[u32], arguments: &[u32]) -> bool {
+fn schema_is_sized(
+    pool: &[u8],
+    names: &[u32],
+    type_refs: &[u32],
+    types: &[u32],
+    fields: &[u32],
+    arguments: &[u32],
+) -> bool {
     (pool.len() <= MOST_BYTES)
         & is_counted(names, NAME_WIDTH, LEAST_NAMES, MOST_NAMES)
         & is_counted(type_refs, TYPE_REF_WIDTH, 0, MOST_TYPE_REFS)
