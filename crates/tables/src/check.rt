@@ -6,7 +6,9 @@ ghost use Rattle.tables.specs.Lawful.{tableCode, lawfulBuffers};
 use crate::defaults::defaults_are_closed;
 use crate::document::document_is_lawful;
 use crate::schema::schema_is_lawful;
-use crate::sizes::tables_are_sized;
+use crate::sizes::document_is_sized;
+use crate::sizes::schema_is_sized;
+use crate::sizes::values_are_sized;
 use crate::values::values_are_lawful;
 use rows::json::LITERAL_WIDTH;
 use rows::layout::row_count;
@@ -41,26 +43,14 @@ fn rows_are_lawful(
 ) -> bool
     ensures { λ r. ⌜ r ≡ rowsLawful (tables (now (pool .entry)) (now (names .entry)) (now («type_refs» .entry)) (now (types .entry)) (now (members .entry)) (now (fields .entry)) (now (arguments .entry)) (now (sets .entry)) (now (selections .entry)) (now (given .entry)) (now (fragments .entry)) (now (nodes .entry)) (now (literals .entry)) (now (variables .entry)) (now (answers .entry)) root) ⌝ }
 {
-    if !tables_are_sized(
-        pool,
-        names,
-        type_refs,
-        types,
-        fields,
-        arguments,
-        sets,
-        selections,
-        given,
-        fragments,
-        nodes,
-        literals,
-        variables,
-        answers,
-    ) {
+    let sized = schema_is_sized(pool, names, type_refs, types, fields, arguments)
+        & (document_is_sized(sets, selections, given, fragments)
+            & values_are_sized(nodes, literals, variables, answers));
+    if !sized {
         return false;
     }
     let name_count = row_count(names, NAME_WIDTH);
-    let type_ref_count = row_count(type_refs, TYPE_REF_WIDTH);
+    let ref_count = row_count(type_refs, TYPE_REF_WIDTH);
     let literal_count = row_count(literals, LITERAL_WIDTH);
     schema_is_lawful(
         pool,
@@ -75,7 +65,7 @@ fn rows_are_lawful(
     )
         && document_is_lawful(
             name_count,
-            type_ref_count,
+            ref_count,
             sets,
             selections,
             given,
