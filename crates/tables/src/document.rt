@@ -1,7 +1,7 @@
 // The operation's tables: one loop a table for all that is asked of each row.
 ghost use mathlib.Core.Path.{_≡_};
 ghost use mathlib.Core.Bool.{true};
-ghost use Prim.Native.Nat.{_≤_, _<_};
+ghost use Prim.Native.Nat.{_+_, _≤_, _<_};
 ghost use lib.ListN.{length};
 ghost use Rattle.rows.specs.Layout.{setWidth, selectionWidth, givenWidth, fragmentWidth};
 ghost use Rattle.rows.specs.Limits.{mostSelections};
