@@ -1,3 +1,4 @@
+pub mod ByTable
 pub mod Chained
 pub mod Closed
 pub mod Facts

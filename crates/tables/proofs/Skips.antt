@@ -70,16 +70,20 @@ module _ (selections : List ℕ) where
             let e : row ≡ i = omega arith in
             let there : row < length skips = omega (arith, k .room) in
             rw (← e) (getD-set-same skips row to 0 there)
+
         other : (i : ℕ) → (i ≡ row → ⊥) → getD (set skips row to) i 0 ≡ getD skips i 0
         other i n = getD-set-other skips row i to 0 n
+
         low : (i : ℕ) → Dec (suc i ≤ row) → Dec (suc row ≤ i) → getD (set skips row to) i 0 ≤ mostSelections
         low i (yes x) d = omega (arith, other i (λ e. omega arith), k .low i)
         low i (no x) (yes y) = omega (arith, other i (λ e. omega arith), k .low i)
         low i (no x) (no y) = omega (arith, here i x y)
+
         ahead : (i : ℕ) → 0 < getD (set skips row to) i 0 → Dec (suc i ≤ row) → Dec (suc row ≤ i) → i < getD (set skips row to) i 0
         ahead i p (yes x) d = rw (other i (λ e. omega arith)) (k .ahead i (rw (other i (λ e. omega arith)) at p))
         ahead i p (no x) (yes y) = rw (other i (λ e. omega arith)) (k .ahead i (rw (other i (λ e. omega arith)) at p))
         ahead i p (no x) (no y) = omega (arith, here i x y)
+
         larger : (i j : ℕ) → i ≤ j → j < getD (set skips row to) i 0 → Dec (suc i ≤ row) → Dec (suc row ≤ i) → childLarger selections s j ≡ true
         larger i j l m (yes x) d = k .larger i j l (rw (other i (λ e. omega arith)) at m)
         larger i j l m (no x) (yes y) = k .larger i j l (rw (other i (λ e. omega arith)) at m)
@@ -127,17 +131,17 @@ module _ (selections : List ℕ) where
       known j l h (no x) (yes y) = v .larger j (omega arith) h
       known j l h (no x) (no y) = let same : row ≡ j = omega arith in rw (← same) e
 
-  -- all of a range
-  pub larger-all : (s first count row : ℕ) → LargerUpTo selections s first row → first + count ≤ row
-      → true ≡ childrenLarger selections s (record { first = first; count = count })
-  unfolding childrenLarger
-  larger-all s first count row u h =
-      sym (all-each (λ i. childLarger selections s (first + i)) count (λ i l. u .larger (first + i) (omega arith) (omega arith)))
+  module _ (s : ℕ) (rows : Range) (row : ℕ) where
+    -- all of a range
+    pub larger-all : LargerUpTo selections s (rows .first) row → rows .first + rows .count ≤ row → true ≡ childrenLarger selections s rows
+    unfolding childrenLarger
+    larger-all u h =
+        sym (all-each (λ i. childLarger selections s (rows .first + i)) (rows .count) (λ i l. u .larger (rows .first + i) (omega arith) (omega arith)))
 
-  -- one of a range is not larger
-  pub larger-broken : (s first count row : ℕ) (r : Bool) → first ≤ row → row < first + count → r ≡ childLarger selections s row → not r ≡ true
-      → false ≡ childrenLarger selections s (record { first = first; count = count })
-  unfolding childrenLarger
-  larger-broken s first count row r l h e n =
-      let there : first + (row - first) ≡ row = omega arith in
-      all-broken (λ i. childLarger selections s (first + i)) (row - first) count r (omega arith) (rw there e) n
+    -- one of a range is not larger
+    pub larger-broken : (r : Bool) → rows .first ≤ row → row < rows .first + rows .count → r ≡ childLarger selections s row → not r ≡ true
+        → false ≡ childrenLarger selections s rows
+    unfolding childrenLarger
+    larger-broken r l h e n =
+        let there : rows .first + (row - rows .first) ≡ row = omega arith in
+        all-broken (λ i. childLarger selections s (rows .first + i)) (row - rows .first) (rows .count) r (omega arith) (rw there e) n

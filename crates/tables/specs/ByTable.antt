@@ -2,7 +2,7 @@
 -- `rowsLawful` is proved; no public contract cites it.
 use mathlib.Core.Path.{_≡_}
 use mathlib.Core.Bool.{Bool, true, not, _&&_, _||_}
-use mathlib.Core.List.{List}
+use mathlib.Core.List.{List, [], _∷_}
 use Prim.Native.Nat.{ℕ, _≤_, _<_}
 use lib.ListN.{length, getD}
 use lib.Dec.{ltb, leb, eqb}
@@ -14,24 +14,27 @@ use Rattle.rules.specs.Schema.{typeRefRow, typeRow, typeParts, typeNameNew, mem
 use Rattle.rules.specs.Document.{setRow, selectionRow, givenRow, givenDiffer, fragmentRow, fragmentNameNew, childLarger, childSetsLarger, selectionOwnsAlone, fragmentOwnsAlone}
 use Rattle.rules.specs.Json.{nodeRow, nodeKeyRow, nodeKeysDiffer, literalRow, literalKeysDiffer, variableRow, variableNameNew}
 use Rattle.rules.specs.Answers.{answerRow, answerNamesDiffer, rootAnswer}
-use Rattle.tables.specs.Tables.{Tables}
+use Rattle.tables.specs.Tables.{Tables, nameCount, refCount, literalCount}
 use Rattle.tables.specs.Rules.{sizeHolds}
 use Rattle.tables.specs.declared.rulebook.SizeRule.the-variants as size
 use Rattle.tables.specs.declared.values.Seen.{Seen}
 
-abbrev pub schemaSized : Tables → Bool
-schemaSized T =
-    sizeHolds size.Pool T && (sizeHolds size.Names T && (sizeHolds size.TypeRefs T
-    && (sizeHolds size.Types T && (sizeHolds size.Fields T && sizeHolds size.Arguments T))))
+-- every test of a list passes
+unfoldable pub conj : List Bool → Bool
+conj [] = true
+conj (b ∷ []) = b
+conj (b ∷ c ∷ bs) = b && conj (c ∷ bs)
 
-abbrev pub documentSized : Tables → Bool
-documentSized T = sizeHolds size.Sets T && (sizeHolds size.Selections T && (sizeHolds size.Given T && sizeHolds size.Fragments T))
+abbrev pub schemaSizes : Tables → List Bool
+schemaSizes T =
+    sizeHolds size.Pool T ∷ sizeHolds size.Names T ∷ sizeHolds size.TypeRefs T ∷ sizeHolds size.Types T ∷ sizeHolds size.Fields T
+    ∷ sizeHolds size.Arguments T ∷ []
 
-abbrev pub valuesSized : Tables → Bool
-valuesSized T = sizeHolds size.Nodes T && (sizeHolds size.Literals T && (sizeHolds size.Variables T && sizeHolds size.Answers T))
+abbrev pub documentSizes : Tables → List Bool
+documentSizes T = sizeHolds size.Sets T ∷ sizeHolds size.Selections T ∷ sizeHolds size.Given T ∷ sizeHolds size.Fragments T ∷ []
 
-unfoldable pub sized : Tables → Bool
-sized T = schemaSized T && (documentSized T && valuesSized T)
+abbrev pub valuesSizes : Tables → List Bool
+valuesSizes T = sizeHolds size.Nodes T ∷ sizeHolds size.Literals T ∷ sizeHolds size.Variables T ∷ sizeHolds size.Answers T ∷ []
 
 -- One row. Of other tables most rules ask how many rows they have; `names`, `refs` .. are these numbers.
 unfoldable pub nameHolds : List ℕ → List ℕ → ℕ → Bool
@@ -59,38 +62,47 @@ unfoldable pub literalHolds : List ℕ → ℕ → ℕ → List ℕ → ℕ → 
 literalHolds pool names count literals row = literalRow pool names count literals row && literalKeysDiffer literals row
 
 -- Tables by chapters.
-unfoldable pub schemaHolds : List ℕ → List ℕ → List ℕ → List ℕ → List ℕ → List ℕ → List ℕ → ℕ → ℕ → Bool
-schemaHolds pool names refs types members fields arguments literals root =
+abbrev pub schemaTests : List ℕ → List ℕ → List ℕ → List ℕ → List ℕ → List ℕ → List ℕ → ℕ → ℕ → List Bool
+schemaTests pool names refs types members fields arguments literals root =
     all (nameHolds pool names) (rowsOf names nameWidth)
-    && (all (nameNew pool names) (rowsOf names nameWidth)
-    && (all (typeRefRow (rowsOf names nameWidth) refs) (rowsOf refs typeRefWidth)
-    && (all (memberRow (rowsOf names nameWidth) members) (rowsOf members memberWidth)
-    && (all (argumentRow (rowsOf names nameWidth) (rowsOf refs typeRefWidth) literals arguments) (rowsOf arguments argumentWidth)
-    && (all (fieldHolds (rowsOf names nameWidth) (rowsOf refs typeRefWidth) literals fields arguments) (rowsOf fields fieldWidth)
-    && (all (typeHolds (rowsOf names nameWidth) (rowsOf members memberWidth) types fields) (rowsOf types typeWidth)
-    && (all (typeNameNew types) (rowsOf types typeWidth)
-    && rootType types root)))))))
+    ∷ all (nameNew pool names) (rowsOf names nameWidth)
+    ∷ all (typeRefRow (rowsOf names nameWidth) refs) (rowsOf refs typeRefWidth)
+    ∷ all (memberRow (rowsOf names nameWidth) members) (rowsOf members memberWidth)
+    ∷ all (argumentRow (rowsOf names nameWidth) (rowsOf refs typeRefWidth) literals arguments) (rowsOf arguments argumentWidth)
+    ∷ all (fieldHolds (rowsOf names nameWidth) (rowsOf refs typeRefWidth) literals fields arguments) (rowsOf fields fieldWidth)
+    ∷ all (typeHolds (rowsOf names nameWidth) (rowsOf members memberWidth) types fields) (rowsOf types typeWidth)
+    ∷ all (typeNameNew types) (rowsOf types typeWidth)
+    ∷ rootType types root
+    ∷ []
 
-unfoldable pub documentHolds : ℕ → ℕ → List ℕ → List ℕ → List ℕ → List ℕ → ℕ → Bool
-documentHolds names refs sets selections given fragments literals =
+abbrev pub documentTests : ℕ → ℕ → List ℕ → List ℕ → List ℕ → List ℕ → ℕ → List Bool
+documentTests names refs sets selections given fragments literals =
     all (givenRow names literals given) (rowsOf given givenWidth)
-    && (all (selectionHolds names refs (rowsOf sets setWidth) selections given) (rowsOf selections selectionWidth)
-    && (all (fragmentRow names (rowsOf sets setWidth) fragments) (rowsOf fragments fragmentWidth)
-    && (all (fragmentNameNew fragments) (rowsOf fragments fragmentWidth)
-    && ((all (selectionOwnsAlone selections) (rowsOf selections selectionWidth)
-    && all (fragmentOwnsAlone selections fragments) (rowsOf fragments fragmentWidth))
-    && all (setHolds sets selections) (rowsOf sets setWidth)))))
+    ∷ all (selectionHolds names refs (rowsOf sets setWidth) selections given) (rowsOf selections selectionWidth)
+    ∷ all (fragmentRow names (rowsOf sets setWidth) fragments) (rowsOf fragments fragmentWidth)
+    ∷ all (fragmentNameNew fragments) (rowsOf fragments fragmentWidth)
+    ∷ (all (selectionOwnsAlone selections) (rowsOf selections selectionWidth) && all (fragmentOwnsAlone selections fragments) (rowsOf fragments fragmentWidth))
+    ∷ all (setHolds sets selections) (rowsOf sets setWidth)
+    ∷ []
 
-unfoldable pub valuesHold : List ℕ → ℕ → List ℕ → List ℕ → List ℕ → List ℕ → Bool
-valuesHold pool names nodes literals variables answers =
+abbrev pub valuesTests : List ℕ → ℕ → List ℕ → List ℕ → List ℕ → List ℕ → List Bool
+valuesTests pool names nodes literals variables answers =
     all (nodeHolds pool (rowsOf nodes nodeWidth) nodes) (rowsOf nodes nodeWidth)
-    && (all (nodeKeysDiffer pool nodes) (rowsOf nodes nodeWidth)
-    && (all (literalHolds pool names (rowsOf literals literalWidth) literals) (rowsOf literals literalWidth)
-    && (all (variableRow names (rowsOf nodes nodeWidth) variables) (rowsOf variables variableWidth)
-    && (all (variableNameNew variables) (rowsOf variables variableWidth)
-    && ((all (answerRow names (rowsOf nodes nodeWidth) (rowsOf answers answerWidth) answers) (rowsOf answers answerWidth)
-    && all (answerNamesDiffer answers) (rowsOf answers answerWidth))
-    && rootAnswer answers)))))
+    ∷ all (nodeKeysDiffer pool nodes) (rowsOf nodes nodeWidth)
+    ∷ all (literalHolds pool names (rowsOf literals literalWidth) literals) (rowsOf literals literalWidth)
+    ∷ all (variableRow names (rowsOf nodes nodeWidth) variables) (rowsOf variables variableWidth)
+    ∷ all (variableNameNew variables) (rowsOf variables variableWidth)
+    ∷ (all (answerRow names (rowsOf nodes nodeWidth) (rowsOf answers answerWidth) answers) (rowsOf answers answerWidth) && all (answerNamesDiffer answers) (rowsOf answers answerWidth))
+    ∷ rootAnswer answers
+    ∷ []
+
+-- Everything that the check looks at.
+unfoldable pub byTable : Tables → Bool
+byTable T =
+    (conj (schemaSizes T) && (conj (documentSizes T) && conj (valuesSizes T)))
+    && (conj (schemaTests (T .pool) (T .names) (T .refs) (T .types) (T .members) (T .fields) (T .arguments) (literalCount T) (T .root))
+    && (conj (documentTests (nameCount T) (refCount T) (T .sets) (T .selections) (T .given) (T .fragments) (literalCount T))
+    && conj (valuesTests (T .pool) (nameCount T) (T .nodes) (T .literals) (T .variables) (T .answers))))
 
 -- What is kept on the way.
 -- an answer that has fewer than two names to compare

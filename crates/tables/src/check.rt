@@ -52,7 +52,7 @@ fn rows_are_lawful(
     let name_count = row_count(names, NAME_WIDTH);
     let ref_count = row_count(type_refs, TYPE_REF_WIDTH);
     let literal_count = row_count(literals, LITERAL_WIDTH);
-    schema_is_lawful(
+    if !schema_is_lawful(
         pool,
         names,
         type_refs,
@@ -62,17 +62,21 @@ fn rows_are_lawful(
         arguments,
         literal_count,
         root,
-    )
-        && document_is_lawful(
-            name_count,
-            ref_count,
-            sets,
-            selections,
-            given,
-            fragments,
-            literal_count,
-        )
-        && values_are_lawful(pool, name_count, nodes, literals, variables, answers)
+    ) {
+        return false;
+    }
+    if !document_is_lawful(
+        name_count,
+        ref_count,
+        sets,
+        selections,
+        given,
+        fragments,
+        literal_count,
+    ) {
+        return false;
+    }
+    values_are_lawful(pool, name_count, nodes, literals, variables, answers)
 }
 
 pub fn table_check(

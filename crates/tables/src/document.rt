@@ -11,7 +11,7 @@ ghost use Rattle.rows.specs.declared.document.FieldSelection.{FieldSelection};
 ghost use Rattle.rules.specs.Rows.{other};
 ghost use Rattle.rules.specs.Document.{givenRow, givenOf, fragmentRow, selectedOf, childrenLarger};
 ghost use Rattle.distinct.specs.Differ.{Since};
-ghost use Rattle.tables.specs.ByTable.{selectionHolds, setHolds, documentHolds, Skips, LargerUpTo};
+ghost use Rattle.tables.specs.ByTable.{selectionHolds, setHolds, conj, documentTests, Skips, LargerUpTo};
 use distinct::columns::is_distinct_column;
 use distinct::columns::is_distinct_since;
 use distinct::columns::note_since;
@@ -253,13 +253,23 @@ pub(crate) fn document_is_lawful(
     literals: u32,
 ) -> bool
     requires { ⌜ rowsOf (now selections) selectionWidth ≤ mostSelections ⌝ }
-    ensures { λ r. ⌜ r ≡ documentHolds names «type_refs» (now (sets .entry)) (now (selections .entry)) (now (given .entry)) (now (fragments .entry)) literals ⌝ }
+    ensures { λ r. ⌜ r ≡ conj (documentTests names «type_refs» (now (sets .entry)) (now (selections .entry)) (now (given .entry)) (now (fragments .entry)) literals) ⌝ }
 {
     let set_count = row_count(sets, SET_WIDTH);
-    each_given_holds(names, literals, given)
-        && selections_hold(names, type_refs, set_count, selections, given)
-        && each_fragment_holds(names, set_count, fragments)
-        && is_distinct_column(fragments, FRAGMENT_WIDTH, 0)
-        && owners_differ(selections, fragments)
-        && each_set_holds(sets, selections)
+    if !each_given_holds(names, literals, given) {
+        return false;
+    }
+    if !selections_hold(names, type_refs, set_count, selections, given) {
+        return false;
+    }
+    if !each_fragment_holds(names, set_count, fragments) {
+        return false;
+    }
+    if !is_distinct_column(fragments, FRAGMENT_WIDTH, 0) {
+        return false;
+    }
+    if !owners_differ(selections, fragments) {
+        return false;
+    }
+    each_set_holds(sets, selections)
 }

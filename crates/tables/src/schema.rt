@@ -8,7 +8,7 @@ ghost use Rattle.rows.specs.Rows.{all, rowsOf};
 ghost use Rattle.rules.specs.Rows.{other};
 ghost use Rattle.rules.specs.Schema.{typeRefRow, memberRow, argumentRow};
 ghost use Rattle.distinct.specs.Differ.{Since};
-ghost use Rattle.tables.specs.ByTable.{nameHolds, fieldHolds, typeHolds, schemaHolds};
+ghost use Rattle.tables.specs.ByTable.{nameHolds, fieldHolds, typeHolds, conj, schemaTests};
 use distinct::columns::is_distinct_column;
 use distinct::columns::is_distinct_since;
 use distinct::columns::note_since;
@@ -279,17 +279,33 @@ pub(crate) fn schema_is_lawful(
     root: u32,
 ) -> bool
     requires { ⌜ rowsOf (now names) nameWidth ≤ mostNames ⌝ }
-    ensures { λ r. ⌜ r ≡ schemaHolds (now (pool .entry)) (now (names .entry)) (now («type_refs» .entry)) (now (types .entry)) (now (members .entry)) (now (fields .entry)) (now (arguments .entry)) literals root ⌝ }
+    ensures { λ r. ⌜ r ≡ conj (schemaTests (now (pool .entry)) (now (names .entry)) (now («type_refs» .entry)) (now (types .entry)) (now (members .entry)) (now (fields .entry)) (now (arguments .entry)) literals root) ⌝ }
 {
     let name_count = row_count(names, NAME_WIDTH);
     let ref_count = row_count(type_refs, TYPE_REF_WIDTH);
-    each_name_holds(pool, names)
-        && all_names_differ(pool, names)
-        && each_type_ref_holds(name_count, type_refs)
-        && each_member_holds(name_count, members)
-        && each_argument_holds(name_count, ref_count, literals, arguments)
-        && fields_hold(name_count, ref_count, literals, fields, arguments)
-        && types_hold(name_count, row_count(members, MEMBER_WIDTH), types, fields)
-        && is_distinct_column(types, TYPE_WIDTH, 0)
-        && root_is_object(types, root)
+    if !each_name_holds(pool, names) {
+        return false;
+    }
+    if !all_names_differ(pool, names) {
+        return false;
+    }
+    if !each_type_ref_holds(name_count, type_refs) {
+        return false;
+    }
+    if !each_member_holds(name_count, members) {
+        return false;
+    }
+    if !each_argument_holds(name_count, ref_count, literals, arguments) {
+        return false;
+    }
+    if !fields_hold(name_count, ref_count, literals, fields, arguments) {
+        return false;
+    }
+    if !types_hold(name_count, row_count(members, MEMBER_WIDTH), types, fields) {
+        return false;
+    }
+    if !is_distinct_column(types, TYPE_WIDTH, 0) {
+        return false;
+    }
+    root_is_object(types, root)
 }

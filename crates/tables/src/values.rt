@@ -11,7 +11,7 @@ ghost use Rattle.rules.specs.Rows.{other};
 ghost use Rattle.rules.specs.Json.{literalParts, variableRow};
 ghost use Rattle.rules.specs.Answers.{answerRow, answerNamesDiffer};
 ghost use Rattle.distinct.specs.Differ.{Since};
-ghost use Rattle.tables.specs.ByTable.{nodeHolds, literalHolds, plainAnswer, Looked, valuesHold};
+ghost use Rattle.tables.specs.ByTable.{nodeHolds, literalHolds, plainAnswer, Looked, conj, valuesTests};
 use distinct::columns::is_distinct_column;
 use distinct::columns::is_distinct_since;
 use distinct::columns::note_since;
@@ -266,15 +266,27 @@ pub(crate) fn values_are_lawful(
     variables: &[u32],
     answers: &[u32],
 ) -> bool
-    ensures { λ r. ⌜ r ≡ valuesHold (now (pool .entry)) names (now (nodes .entry)) (now (literals .entry)) (now (variables .entry)) (now (answers .entry)) ⌝ }
+    ensures { λ r. ⌜ r ≡ conj (valuesTests (now (pool .entry)) names (now (nodes .entry)) (now (literals .entry)) (now (variables .entry)) (now (answers .entry))) ⌝ }
 {
     let whole = is_utf8(pool);
     let node_count = row_count(nodes, NODE_WIDTH);
-    each_node_holds(pool, whole, nodes)
-        && all_node_keys_differ(pool, nodes)
-        && literals_hold(pool, whole, names, literals)
-        && each_variable_holds(names, node_count, variables)
-        && is_distinct_column(variables, VARIABLE_WIDTH, 0)
-        && answers_hold(names, node_count, answers)
-        && root_answer_is_object(answers)
+    if !each_node_holds(pool, whole, nodes) {
+        return false;
+    }
+    if !all_node_keys_differ(pool, nodes) {
+        return false;
+    }
+    if !literals_hold(pool, whole, names, literals) {
+        return false;
+    }
+    if !each_variable_holds(names, node_count, variables) {
+        return false;
+    }
+    if !is_distinct_column(variables, VARIABLE_WIDTH, 0) {
+        return false;
+    }
+    if !answers_hold(names, node_count, answers) {
+        return false;
+    }
+    root_answer_is_object(answers)
 }

@@ -1,87 +1,78 @@
+-- The child sets of the selections passed are larger; one that is not ends the search. Assumes nothing.
+use mathlib.Core.Path.{_≡_}
+use Prim.Native.Nat.{_≤_, _<_, _-_, _+_}
+use borrow.Author.Needs.{needs}
+use native.Mathlib.Omega.{arith}
+use lib.ListN.{length, length-set}
+use Rattle.tables.specs.ByTable.{Skips, LargerUpTo}
+use Rattle.rows.proofs.Every.{verified}
+use Rattle.tables.proofs.Skips.{skips-set, larger-more, larger-all, larger-broken}
 use Rattle.tables.proofs.document.children_are_larger.Statement.{statement}
 use Rattle.tables.proofs.document.children_are_larger.Tie as tie
-use Rattle.tables.proofs.document.children_are_larger.Reads as reads
-use Rattle.tables.proofs.document.children_are_larger.Lts as lts
-use Rattle.rules.proofs.document.child_is_larger.Reads as child-is-larger-reads
-use Rattle.tables.proofs.document.first_unlooked.Reads as first-unlooked-reads
 
 abbrev Inv-loop : tie.InvT-loop
-Inv-loop selections set skips₀ first end row₀ skips row = ?
+Inv-loop selections set skips₀ first end row₀ skips row = Skips selections set skips × LargerUpTo selections set first row
 
 abbrev μ-loop : tie.MeasureT-loop
-μ-loop selections set skips₀ first end row₀ skips row = ?
+μ-loop selections set skips₀ first end row₀ skips row = 2049 - row
 
--- src/document.rt:205:17
-cast-first : tie.Need-cast-first Inv-loop μ-loop
-cast-first c = ?
-
--- src/document.rt:206:24
-cast-end : tie.Need-cast-end Inv-loop μ-loop
-cast-end c = ?
-
--- src/document.rt:206:15
-add-end : tie.Need-add-end Inv-loop μ-loop
-add-end c = ?
-
--- src/document.rt:207:9
 first-unlooked-requires : tie.Need-first-unlooked-requires Inv-loop μ-loop
-first-unlooked-requires c κs = ?
+first-unlooked-requires c κs = (c .before .before .before .before .before .pre .0, omega (arith, c .before .before .before .before .before .pre .1))
 
--- src/document.rt:208:5
 loop-holds : tie.Need-loop-holds Inv-loop μ-loop
-loop-holds c = ?
+loop-holds c = (c .before .before .first-unlooked .ensures .0, c .before .before .first-unlooked .ensures .1)
 
--- src/document.rt:209:13
 child-is-larger-requires : tie.Need-child-is-larger-requires Inv-loop μ-loop
-child-is-larger-requires c κs = ?
+child-is-larger-requires c κs = omega (arith, c .before .loop .inv .1 .high)
 
--- src/document.rt:210:13
 same-length : tie.Need-same-length Inv-loop μ-loop
-same-length c = ?
+same-length c = omega (arith, c .before .before .before .loop .inv .0 .room, c .before .before .before .before .before .before .before .before .before .before .before .before .pre .0 .room)
 
--- src/document.rt:210:13
 returns : tie.Need-returns Inv-loop μ-loop
-returns c = ?
+returns c =
+    let l = c .before .before .before .loop in
+    (larger-broken _ _ _ (l .row) _ (l .inv .1 .low) (c .before .before .loop-test .taken) (c .before .child-is-larger .ensures) (c .if1 .taken), l .inv .0)
 
--- src/document.rt:212:23
 add-skips : tie.Need-add-skips Inv-loop μ-loop
-add-skips c = ?
+add-skips c = omega (arith, c .before .before .before .loop .inv .1 .high)
 
--- src/document.rt:212:22
 cast-skips : tie.Need-cast-skips Inv-loop μ-loop
-cast-skips c = ?
+cast-skips c = omega (arith, c .before .before .before .loop .inv .1 .high)
 
--- src/document.rt:212:9
 mul-skips : tie.Need-mul-skips Inv-loop μ-loop
-mul-skips c = ?
+mul-skips c = omega (arith, c .before .before .before .loop .inv .1 .high)
 
--- src/document.rt:212:9
 slice-write-skips : tie.Need-slice-write-skips Inv-loop μ-loop
-slice-write-skips c = ?
+slice-write-skips c = omega (arith, c .before .before .before .loop .inv .0 .room, c .before .before .before .loop .inv .1 .high)
 
--- src/document.rt:213:54
 add-first-unlooked : tie.Need-add-first-unlooked Inv-loop μ-loop
-add-first-unlooked c = ?
+add-first-unlooked c = omega (arith, c .before .before .before .before .loop .inv .1 .high)
 
--- src/document.rt:213:9
 first-unlooked-requires-2 : tie.Need-first-unlooked-requires-2 Inv-loop μ-loop
-first-unlooked-requires-2 c κs = ?
+first-unlooked-requires-2 c κs =
+    let l = c .before .before .before .before .loop in
+    let under : l .row < 2048 = omega (arith, c .before .before .before .loop-test .taken, c .before .before .before .before .before .before .before .before .before .before .before .before .before .pre .1) in (
+      skips-set _ _ _ (l .inv .0) (l .row) (l .row + 1) (omega arith) (omega arith)
+          (λ j a b.
+          let same : l .row ≡ j = omega arith in
+          rw (← same) (verified _ _ (c .before .before .child-is-larger .ensures) (c .before .if1 .left))),
+      omega arith,
+    )
 
--- src/document.rt:208:5
 loop-less : tie.Need-loop-less Inv-loop μ-loop
-loop-less c = ?
+loop-less c = omega (arith, c .before .before .first-unlooked2 .ensures .1 .low, c .before .before .before .before .before .before .before .loop .inv .1 .high)
 
--- src/document.rt:208:5
 loop-again : tie.Need-loop-again Inv-loop μ-loop
-loop-again c = ?
+loop-again c =
+    let l = c .before .before .before .before .before .before .before .loop in
+    let after = c .before .before .first-unlooked2 .ensures in
+    (after .0, larger-more _ _ _ (l .row) _ (l .inv .1) (verified _ _ (c .before .before .before .before .before .child-is-larger .ensures) (c .before .before .before .before .if1 .left)) (after .1))
 
--- src/document.rt:199:1
 same-length-2 : tie.Need-same-length-2 Inv-loop μ-loop
-same-length-2 c = ?
+same-length-2 c = omega (arith, c .before .loop .inv .0 .room, c .before .before .before .before .before .before .before .before .before .before .pre .0 .room)
 
--- src/document.rt:199:1
 returns-2 : tie.Need-returns-2 Inv-loop μ-loop
-returns-2 c = ?
+returns-2 c = let l = c .before .loop in (larger-all _ _ _ (l .row) (l .inv .1) (c .loop-test .left), l .inv .0)
 
 pub children-are-larger-spec : {M : Type 1} → statement M
 children-are-larger-spec =
@@ -89,9 +80,9 @@ children-are-larger-spec =
     (tie.spec
     Inv-loop
     μ-loop
-    cast-first
-    cast-end
-    add-end
+    (λ c. search needs)
+    (λ c. search needs)
+    (λ c. search needs)
     first-unlooked-requires
     loop-holds
     child-is-larger-requires

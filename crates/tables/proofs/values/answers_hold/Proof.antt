@@ -1,30 +1,29 @@
+-- Where no answer has two names to compare, none has two alike. Assumes nothing.
+use mathlib.Core.Path.{sym}
+use Rattle.rows.proofs.Every.{all-at, all-each}
+use Rattle.tables.proofs.Chained.{turned-true, turned-false}
+use Rattle.tables.proofs.Parts.{plain-differs}
 use borrow.Author.Needs.{needs}
 use Rattle.tables.proofs.values.answers_hold.Statement.{statement}
 use Rattle.tables.proofs.values.answers_hold.Tie as tie
-use Rattle.tables.proofs.values.answers_hold.Reads as reads
-use Rattle.tables.proofs.values.answers_hold.Lts as lts
-use Rattle.tables.proofs.values.answer_names_differ.Reads as answer-names-differ-reads
-use Rattle.tables.proofs.values.look_at_answers.Reads as look-at-answers-reads
 
--- src/values.rt:251:9
 look-at-answers-requires : tie.Need-look-at-answers-requires
 look-at-answers-requires c κs = search needs
 
--- src/values.rt:253:9
 returns : tie.Need-returns
-returns c = ?
+returns c = rw (← (c .before .before .look-at-answers .ensures .lawful), turned-false (c .before .before .look-at-answers .result .lawful) (c .if1 .taken))
 
--- src/values.rt:256:9
 returns-2 : tie.Need-returns-2
-returns-2 c = ?
+returns-2 c =
+    let seen = c .before .before .before .look-at-answers in
+    rw (← (seen .ensures .lawful), turned-true (seen .result .lawful) (c .before .if1 .left))
+    (sym (all-each _ _ (λ row l. plain-differs _ row (all-at _ row _ l (seen .ensures .plain (c .if2 .taken))))))
 
--- src/values.rt:258:5
 answer-names-differ-requires : tie.Need-answer-names-differ-requires
 answer-names-differ-requires c κs = search needs
 
--- src/values.rt:248:1
 returns-3 : tie.Need-returns-3
-returns-3 c = ?
+returns-3 c = rw (← (c .before .before .before .before .look-at-answers .ensures .lawful), turned-true (c .before .before .before .before .look-at-answers .result .lawful) (c .before .before .if1 .left)) (c .answer-names-differ .ensures)
 
 pub answers-hold-spec : {M : Type 1} → statement M
 answers-hold-spec =

@@ -25,7 +25,7 @@ returns c =
     let turn = c .before .before .before in
     record {
       lawful = rw (← (turn .before .row-count .ensures))
-        (all-broken _ (turn .loop .row) _ (c .before .answer-holds .result) (c .before .before .loop-test .taken) (c .before .answer-holds .ensures) (c .if1 .taken));
+          (all-broken _ (turn .loop .row) _ (c .before .answer-holds .result) (c .before .before .loop-test .taken) (c .before .answer-holds .ensures) (c .if1 .taken));
       plain = λ e. absurd (false≢true e);
     }
 
@@ -33,21 +33,23 @@ loop-again : tie.Need-loop-again Inv-loop μ-loop
 loop-again c =
     let turn = c .before .before .before .before in
     let held = c .before .before .answer-holds in
-    let one = c .is-plain in
-    (search needs, all-more _ (turn .loop .row) (held .result) (turn .loop .inv .1) (held .ensures) (c .before .if1 .left),
-    λ e.
-    all-more _ (turn .loop .row) (one .result) (turn .loop .inv .2 (and-left (turn .loop .plain) (one .result) e)) (one .ensures)
-    (rw (and-right (turn .loop .plain) (one .result) e)))
+    let one = c .is-plain in (
+      search needs,
+      all-more _ (turn .loop .row) (held .result) (turn .loop .inv .1) (held .ensures) (c .before .if1 .left),
+      λ e.
+          all-more _ (turn .loop .row) (one .result) (turn .loop .inv .2 (and-left (turn .loop .plain) (one .result) e)) (one .ensures)
+          (rw (and-right (turn .loop .plain) (one .result) e)),
+    )
 
 returns-2 : tie.Need-returns-2 Inv-loop μ-loop
 returns-2 c =
     let last = c .before in
     record {
       lawful = rw (← (last .before .row-count .ensures))
-        (all-ended _ (last .loop .row) _ (last .loop .inv .1) (last .loop .inv .0) (c .loop-test .left));
+          (all-ended _ (last .loop .row) _ (last .loop .inv .1) (last .loop .inv .0) (c .loop-test .left));
       plain = λ e.
-        rw (← (last .before .row-count .ensures))
-        (sym (all-ended _ (last .loop .row) _ (last .loop .inv .2 e) (last .loop .inv .0) (c .loop-test .left)));
+          rw (← (last .before .row-count .ensures))
+          (sym (all-ended _ (last .loop .row) _ (last .loop .inv .2 e) (last .loop .inv .0) (c .loop-test .left)));
     }
 
 pub look-at-answers-spec : {M : Type 1} → statement M

@@ -1,0 +1,115 @@
+-- The tests table by table are the rules. Assumes nothing.
+use mathlib.Core.Bool.{_&&_}
+use Rattle.tables.specs.ByTable.{byTable, conj}
+use Rattle.tables.proofs.ByTable.{by-table, sized-names, sized-selections}
+use Rattle.tables.proofs.Chained.{turned-true, turned-false}
+use borrow.Author.Needs.{needs}
+use Rattle.tables.proofs.check.rows_are_lawful.Statement.{statement}
+use Rattle.tables.proofs.check.rows_are_lawful.Tie as tie
+
+schema-is-sized-requires : tie.Need-schema-is-sized-requires
+schema-is-sized-requires c κs = search needs
+
+document-is-sized-requires : tie.Need-document-is-sized-requires
+document-is-sized-requires c κs = search needs
+
+values-are-sized-requires : tie.Need-values-are-sized-requires
+values-are-sized-requires c κs = search needs
+
+returns : tie.Need-returns
+unfolding byTable conj
+returns c =
+    rw
+    (← by-table,
+    ← (c .before .before .before .schema-is-sized .ensures),
+    ← (c .before .before .document-is-sized .ensures),
+    ← (c .before .values-are-sized .ensures),
+    turned-false (c .before .before .before .schema-is-sized .result && (c .before .before .document-is-sized .result && c .before .values-are-sized .result)) (c .if1 .taken))
+
+row-count-requires : tie.Need-row-count-requires
+row-count-requires c κs = search needs
+
+row-count-requires-2 : tie.Need-row-count-requires-2
+row-count-requires-2 c κs = search needs
+
+row-count-requires-3 : tie.Need-row-count-requires-3
+row-count-requires-3 c κs = search needs
+
+schema-is-lawful-requires : tie.Need-schema-is-lawful-requires
+schema-is-lawful-requires c κs =
+    sized-names _ (c .before .before .before .before .before .before .schema-is-sized .result) _ _ _ (c .before .before .before .before .before .before .schema-is-sized .ensures) (c .before .before .before .if1 .left)
+
+returns-2 : tie.Need-returns-2
+unfolding byTable conj
+returns-2 c =
+    rw
+    (← by-table,
+    ← (c .before .before .before .before .before .before .before .before .schema-is-sized .ensures),
+    ← (c .before .before .before .before .before .before .before .document-is-sized .ensures),
+    ← (c .before .before .before .before .before .before .values-are-sized .ensures),
+    turned-true (c .before .before .before .before .before .before .before .before .schema-is-sized .result && (c .before .before .before .before .before .before .before .document-is-sized .result && c .before .before .before .before .before .before .values-are-sized .result)) (c .before .before .before .before .before .if1 .left),
+    ← (c .before .before .row-count3 .ensures),
+    ← (c .before .schema-is-lawful .ensures),
+    turned-false (c .before .schema-is-lawful .result) (c .if2 .taken))
+
+document-is-lawful-requires : tie.Need-document-is-lawful-requires
+document-is-lawful-requires c κs =
+    sized-selections _ (c .before .before .before .before .before .before .before .before .schema-is-sized .result) (c .before .before .before .before .before .before .before .document-is-sized .result)
+    (c .before .before .before .before .before .before .values-are-sized .result) _ _ (c .before .before .before .before .before .before .before .document-is-sized .ensures) (c .before .before .before .before .before .if1 .left)
+
+returns-3 : tie.Need-returns-3
+unfolding byTable conj
+returns-3 c =
+    rw
+    (← by-table,
+    ← (c .before .before .before .before .before .before .before .before .before .before .schema-is-sized .ensures),
+    ← (c .before .before .before .before .before .before .before .before .before .document-is-sized .ensures),
+    ← (c .before .before .before .before .before .before .before .before .values-are-sized .ensures),
+    turned-true (c .before .before .before .before .before .before .before .before .before .before .schema-is-sized .result && (c .before .before .before .before .before .before .before .before .before .document-is-sized .result && c .before .before .before .before .before .before .before .before .values-are-sized .result)) (c .before .before .before .before .before .before .before .if1 .left),
+    ← (c .before .before .before .before .row-count3 .ensures),
+    ← (c .before .before .before .schema-is-lawful .ensures),
+    turned-true (c .before .before .before .schema-is-lawful .result) (c .before .before .if2 .left),
+    ← (c .before .before .before .before .before .before .row-count .ensures),
+    ← (c .before .before .before .before .before .row-count2 .ensures),
+    ← (c .before .document-is-lawful .ensures),
+    turned-false (c .before .document-is-lawful .result) (c .if3 .taken))
+
+values-are-lawful-requires : tie.Need-values-are-lawful-requires
+values-are-lawful-requires c κs = search needs
+
+returns-4 : tie.Need-returns-4
+unfolding byTable conj
+returns-4 c =
+    rw
+    (← by-table,
+    ← (c .before .before .before .before .before .before .before .before .before .before .before .schema-is-sized .ensures),
+    ← (c .before .before .before .before .before .before .before .before .before .before .document-is-sized .ensures),
+    ← (c .before .before .before .before .before .before .before .before .before .values-are-sized .ensures),
+    turned-true (c .before .before .before .before .before .before .before .before .before .before .before .schema-is-sized .result && (c .before .before .before .before .before .before .before .before .before .before .document-is-sized .result && c .before .before .before .before .before .before .before .before .before .values-are-sized .result)) (c .before .before .before .before .before .before .before .before .if1 .left),
+    ← (c .before .before .before .before .before .row-count3 .ensures),
+    ← (c .before .before .before .before .schema-is-lawful .ensures),
+    turned-true (c .before .before .before .before .schema-is-lawful .result) (c .before .before .before .if2 .left),
+    ← (c .before .before .before .before .before .before .before .row-count .ensures),
+    ← (c .before .before .before .before .before .before .row-count2 .ensures),
+    ← (c .before .before .document-is-lawful .ensures),
+    turned-true (c .before .before .document-is-lawful .result) (c .before .if3 .left),
+    c .before .before .before .before .before .row-count3 .ensures)
+    (c .values-are-lawful .ensures)
+
+pub rows-are-lawful-spec : {M : Type 1} → statement M
+rows-are-lawful-spec =
+    tie.close
+    (tie.spec
+    schema-is-sized-requires
+    document-is-sized-requires
+    values-are-sized-requires
+    returns
+    row-count-requires
+    row-count-requires-2
+    row-count-requires-3
+    schema-is-lawful-requires
+    returns-2
+    document-is-lawful-requires
+    returns-3
+    values-are-lawful-requires
+    returns-4)
