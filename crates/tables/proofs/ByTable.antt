@@ -24,9 +24,9 @@ use Rattle.tables.specs.declared.rulebook.SizeRule.the-variants as size
 use Rattle.tables.specs.declared.rulebook.SchemaRule.the-variants as schema
 use Rattle.tables.specs.declared.rulebook.DocumentRule.the-variants as document
 use Rattle.tables.specs.declared.rulebook.ValueRule.the-variants as value
-use Rattle.rows.proofs.Every.{and-left, and-right, all-at, all-each}
+use Rattle.rows.proofs.Every.{and-false, and-left, and-right, all-at, all-each}
 use Rattle.rules.proofs.Words.{same-truth}
-use Rattle.tables.proofs.Chained.{turned-true}
+use Rattle.tables.proofs.Chained.{turned-true, turned-false}
 use Rattle.tables.proofs.Facts.{few}
 use Rattle.tables.proofs.Lawful.{obeyed-at, all-obeyed}
 
@@ -268,21 +268,53 @@ module _ (T : Tables) where
     unfolding byTable
     all-hold = and-true sizes-hold (and-true schema-hold (and-true document-hold values-hold))
 
+  -- the one theorem: what is looked at table by table is every rule
   pub by-table : byTable T ≡ rowsLawful T
   by-table = same-truth (byTable T) (rowsLawful T) (λ h. all-obeyed T (each-obeyed h)) all-hold
 
--- What later tests rest on: the names and the selections are few.
-pub sized-names : (names : List ℕ) (s a r rest : Bool) → s ≡ (a && (counted nameWidth leastNames mostNames names && r)) → not (s && rest) ≡ false
-    → rowsOf names nameWidth ≤ mostNames
-sized-names names s a r rest e n =
-    let whole : (a && (counted nameWidth leastNames mostNames names && r)) ≡ true = sym e ∙ and-left s rest (turned-true (s && rest) n) in
-    few nameWidth leastNames mostNames names
-    (and-left (counted nameWidth leastNames mostNames names) r (and-right a (counted nameWidth leastNames mostNames names && r) whole))
+  -- what the check answers as it goes
+  abbrev sizesOf : Bool → Bool → Bool → Bool
+  sizesOf s d v = s && (d && v)
 
-pub sized-selections : (selections : List ℕ) (s d v a r : Bool) → d ≡ (a && (counted selectionWidth 0 mostSelections selections && r))
-    → not (s && (d && v)) ≡ false → rowsOf selections selectionWidth ≤ mostSelections
-sized-selections selections s d v a r e n =
-    let whole : (a && (counted selectionWidth 0 mostSelections selections && r)) ≡ true =
-    sym e ∙ and-left d v (and-right s (d && v) (turned-true (s && (d && v)) n)) in
+  pub stop-sizes : (s d v : Bool) → s ≡ conj (schemaSizes T) → d ≡ conj (documentSizes T) → v ≡ conj (valuesSizes T)
+      → not (sizesOf s d v) ≡ true → false ≡ rowsLawful T
+  unfolding byTable
+  stop-sizes s d v e f g n =
+      let broken : (conj (schemaSizes T) && (conj (documentSizes T) && conj (valuesSizes T))) ≡ false = rw (← e, ← f, ← g) (turned-false (sizesOf s d v) n) in
+      rw (← by-table, broken)
+
+  pub stop-schema : (h : Bool) → h ≡ conj schemaAll → not h ≡ true → false ≡ rowsLawful T
+  unfolding byTable
+  stop-schema h e n =
+      let broken : conj schemaAll ≡ false = sym e ∙ turned-false h n in
+      rw (← by-table, broken) (sym (and-false (conj (schemaSizes T) && (conj (documentSizes T) && conj (valuesSizes T)))))
+
+  pub stop-document : (h : Bool) → h ≡ conj documentAll → not h ≡ true → false ≡ rowsLawful T
+  unfolding byTable
+  stop-document h e n =
+      let broken : conj documentAll ≡ false = sym e ∙ turned-false h n in
+      rw (← by-table, broken, and-false) (sym (and-false (conj (schemaSizes T) && (conj (documentSizes T) && conj (valuesSizes T)))))
+
+  pub go-values : (s d v h k r : Bool) → s ≡ conj (schemaSizes T) → d ≡ conj (documentSizes T) → v ≡ conj (valuesSizes T) → not (sizesOf s d v) ≡ false
+      → h ≡ conj schemaAll → not h ≡ false → k ≡ conj documentAll → not k ≡ false → r ≡ conj valuesAll → r ≡ rowsLawful T
+  unfolding byTable
+  go-values s d v h k r e f g n eh nh ek nk er =
+      let sizes : (conj (schemaSizes T) && (conj (documentSizes T) && conj (valuesSizes T))) ≡ true = rw (← e, ← f, ← g) (turned-true (sizesOf s d v) n) in
+      let first : conj schemaAll ≡ true = sym eh ∙ turned-true h nh in
+      let second : conj documentAll ≡ true = sym ek ∙ turned-true k nk in
+      rw (← by-table, sizes, first, second) er
+
+-- What later tests rest on: the names and the selections are few.
+pub sized-names : (names : List ℕ) (s rest a : Bool) (more : List Bool) → s ≡ conj (a ∷ counted nameWidth leastNames mostNames names ∷ more)
+    → not (s && rest) ≡ false → rowsOf names nameWidth ≤ mostNames
+sized-names names s rest a more e n =
+    few nameWidth leastNames mostNames names
+    (conj-at (a ∷ counted nameWidth leastNames mostNames names ∷ more) 1 (sym e ∙ and-left s rest (turned-true (s && rest) n)))
+
+pub sized-selections : (selections : List ℕ) (s d v a : Bool) (more : List Bool)
+    → d ≡ conj (a ∷ counted selectionWidth 0 mostSelections selections ∷ more) → not (s && (d && v)) ≡ false
+    → rowsOf selections selectionWidth ≤ mostSelections
+sized-selections selections s d v a more e n =
     few selectionWidth 0 mostSelections selections
-    (and-left (counted selectionWidth 0 mostSelections selections) r (and-right a (counted selectionWidth 0 mostSelections selections && r) whole))
+    (conj-at (a ∷ counted selectionWidth 0 mostSelections selections ∷ more) 1
+    (sym e ∙ and-left d v (and-right s (d && v) (turned-true (s && (d && v)) n))))

@@ -1,11 +1,12 @@
 // How long the tables are. Each looks at all of its tables: straight code is quickest, and the tables are few.
 ghost use mathlib.Core.Path.{_≡_};
-ghost use mathlib.Core.Bool.{_&&_};
+ghost use mathlib.Core.List.{[], _∷_};
 ghost use lib.ListN.{length};
 ghost use lib.Dec.{leb};
 ghost use Rattle.rows.specs.Layout.{nameWidth, typeRefWidth, typeWidth, fieldWidth, argumentWidth, setWidth, selectionWidth, givenWidth, fragmentWidth, nodeWidth, literalWidth, variableWidth, answerWidth};
 ghost use Rattle.rows.specs.Limits.{mostBytes, leastNames, mostNames, mostTypeRefs, mostTypes, mostFields, mostArguments, mostSelections, mostFragments, mostNodes, mostLiterals, mostVariables, mostAnswers, mostRows};
 ghost use Rattle.rules.specs.Rows.{counted};
+ghost use Rattle.tables.specs.ByTable.{conj};
 use rows::answers::ANSWER_WIDTH;
 use rows::document::FRAGMENT_WIDTH;
 use rows::document::GIVEN_WIDTH;
@@ -43,7 +44,7 @@ pub(crate) fn schema_is_sized(
     fields: &[u32],
     arguments: &[u32],
 ) -> bool
-    ensures { λ r. ⌜ r ≡ (leb (length (now (pool .entry))) mostBytes && (counted nameWidth leastNames mostNames (now (names .entry)) && (counted typeRefWidth 0 mostTypeRefs (now («type_refs» .entry)) && (counted typeWidth 0 mostTypes (now (types .entry)) && (counted fieldWidth 0 mostFields (now (fields .entry)) && counted argumentWidth 0 mostArguments (now (arguments .entry))))))) ⌝ }
+    ensures { λ r. ⌜ r ≡ conj (leb (length (now (pool .entry))) mostBytes ∷ counted nameWidth leastNames mostNames (now (names .entry)) ∷ counted typeRefWidth 0 mostTypeRefs (now («type_refs» .entry)) ∷ counted typeWidth 0 mostTypes (now (types .entry)) ∷ counted fieldWidth 0 mostFields (now (fields .entry)) ∷ counted argumentWidth 0 mostArguments (now (arguments .entry)) ∷ []) ⌝ }
 {
     (pool.len() <= MOST_BYTES)
         & (is_counted(names, NAME_WIDTH, LEAST_NAMES, MOST_NAMES)
@@ -59,7 +60,7 @@ pub(crate) fn document_is_sized(
     given: &[u32],
     fragments: &[u32],
 ) -> bool
-    ensures { λ r. ⌜ r ≡ (counted setWidth 1 mostRows (now (sets .entry)) && (counted selectionWidth 0 mostSelections (now (selections .entry)) && (counted givenWidth 0 mostRows (now (given .entry)) && counted fragmentWidth 0 mostFragments (now (fragments .entry))))) ⌝ }
+    ensures { λ r. ⌜ r ≡ conj (counted setWidth 1 mostRows (now (sets .entry)) ∷ counted selectionWidth 0 mostSelections (now (selections .entry)) ∷ counted givenWidth 0 mostRows (now (given .entry)) ∷ counted fragmentWidth 0 mostFragments (now (fragments .entry)) ∷ []) ⌝ }
 {
     is_counted(sets, SET_WIDTH, 1, MOST_ROWS)
         & (is_counted(selections, SELECTION_WIDTH, 0, MOST_SELECTIONS)
@@ -73,7 +74,7 @@ pub(crate) fn values_are_sized(
     variables: &[u32],
     answers: &[u32],
 ) -> bool
-    ensures { λ r. ⌜ r ≡ (counted nodeWidth 0 mostNodes (now (nodes .entry)) && (counted literalWidth 0 mostLiterals (now (literals .entry)) && (counted variableWidth 0 mostVariables (now (variables .entry)) && counted answerWidth 1 mostAnswers (now (answers .entry))))) ⌝ }
+    ensures { λ r. ⌜ r ≡ conj (counted nodeWidth 0 mostNodes (now (nodes .entry)) ∷ counted literalWidth 0 mostLiterals (now (literals .entry)) ∷ counted variableWidth 0 mostVariables (now (variables .entry)) ∷ counted answerWidth 1 mostAnswers (now (answers .entry)) ∷ []) ⌝ }
 {
     is_counted(nodes, NODE_WIDTH, 0, MOST_NODES)
         & (is_counted(literals, LITERAL_WIDTH, 0, MOST_LITERALS)

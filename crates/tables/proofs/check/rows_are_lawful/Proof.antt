@@ -1,8 +1,6 @@
 -- The tests table by table are the rules. Assumes nothing.
 use mathlib.Core.Bool.{_&&_}
-use Rattle.tables.specs.ByTable.{byTable, conj}
-use Rattle.tables.proofs.ByTable.{by-table, sized-names, sized-selections}
-use Rattle.tables.proofs.Chained.{turned-true, turned-false}
+use Rattle.tables.proofs.ByTable.{stop-sizes, stop-schema, stop-document, go-values, sized-names, sized-selections}
 use borrow.Author.Needs.{needs}
 use Rattle.tables.proofs.check.rows_are_lawful.Statement.{statement}
 use Rattle.tables.proofs.check.rows_are_lawful.Tie as tie
@@ -17,14 +15,9 @@ values-are-sized-requires : tie.Need-values-are-sized-requires
 values-are-sized-requires c κs = search needs
 
 returns : tie.Need-returns
-unfolding byTable conj
 returns c =
-    rw
-    (← by-table,
-    ← (c .before .before .before .schema-is-sized .ensures),
-    ← (c .before .before .document-is-sized .ensures),
-    ← (c .before .values-are-sized .ensures),
-    turned-false (c .before .before .before .schema-is-sized .result && (c .before .before .document-is-sized .result && c .before .values-are-sized .result)) (c .if1 .taken))
+    stop-sizes _ (c .before .before .before .schema-is-sized .result) (c .before .before .document-is-sized .result) (c .before .values-are-sized .result)
+    (c .before .before .before .schema-is-sized .ensures) (c .before .before .document-is-sized .ensures) (c .before .values-are-sized .ensures) (c .if1 .taken)
 
 row-count-requires : tie.Need-row-count-requires
 row-count-requires c κs = search needs
@@ -37,20 +30,13 @@ row-count-requires-3 c κs = search needs
 
 schema-is-lawful-requires : tie.Need-schema-is-lawful-requires
 schema-is-lawful-requires c κs =
-    sized-names _ (c .before .before .before .before .before .before .schema-is-sized .result) _ _ _ (c .before .before .before .before .before .before .schema-is-sized .ensures) (c .before .before .before .if1 .left)
+    sized-names _ (c .before .before .before .before .before .before .schema-is-sized .result)
+    (c .before .before .before .before .before .document-is-sized .result && c .before .before .before .before .values-are-sized .result)
+    _ _ (c .before .before .before .before .before .before .schema-is-sized .ensures) (c .before .before .before .if1 .left)
 
 returns-2 : tie.Need-returns-2
-unfolding byTable conj
 returns-2 c =
-    rw
-    (← by-table,
-    ← (c .before .before .before .before .before .before .before .before .schema-is-sized .ensures),
-    ← (c .before .before .before .before .before .before .before .document-is-sized .ensures),
-    ← (c .before .before .before .before .before .before .values-are-sized .ensures),
-    turned-true (c .before .before .before .before .before .before .before .before .schema-is-sized .result && (c .before .before .before .before .before .before .before .document-is-sized .result && c .before .before .before .before .before .before .values-are-sized .result)) (c .before .before .before .before .before .if1 .left),
-    ← (c .before .before .row-count3 .ensures),
-    ← (c .before .schema-is-lawful .ensures),
-    turned-false (c .before .schema-is-lawful .result) (c .if2 .taken))
+    stop-schema _ (c .before .schema-is-lawful .result) (rw (c .before .before .row-count3 .ensures) at (c .before .schema-is-lawful .ensures)) (c .if2 .taken)
 
 document-is-lawful-requires : tie.Need-document-is-lawful-requires
 document-is-lawful-requires c κs =
@@ -58,43 +44,21 @@ document-is-lawful-requires c κs =
     (c .before .before .before .before .before .before .values-are-sized .result) _ _ (c .before .before .before .before .before .before .before .document-is-sized .ensures) (c .before .before .before .before .before .if1 .left)
 
 returns-3 : tie.Need-returns-3
-unfolding byTable conj
 returns-3 c =
-    rw
-    (← by-table,
-    ← (c .before .before .before .before .before .before .before .before .before .before .schema-is-sized .ensures),
-    ← (c .before .before .before .before .before .before .before .before .before .document-is-sized .ensures),
-    ← (c .before .before .before .before .before .before .before .before .values-are-sized .ensures),
-    turned-true (c .before .before .before .before .before .before .before .before .before .before .schema-is-sized .result && (c .before .before .before .before .before .before .before .before .before .document-is-sized .result && c .before .before .before .before .before .before .before .before .values-are-sized .result)) (c .before .before .before .before .before .before .before .if1 .left),
-    ← (c .before .before .before .before .row-count3 .ensures),
-    ← (c .before .before .before .schema-is-lawful .ensures),
-    turned-true (c .before .before .before .schema-is-lawful .result) (c .before .before .if2 .left),
-    ← (c .before .before .before .before .before .before .row-count .ensures),
-    ← (c .before .before .before .before .before .row-count2 .ensures),
-    ← (c .before .document-is-lawful .ensures),
-    turned-false (c .before .document-is-lawful .result) (c .if3 .taken))
+    stop-document _ (c .before .document-is-lawful .result)
+    (rw (c .before .before .before .before .before .before .row-count .ensures, c .before .before .before .before .before .row-count2 .ensures, c .before .before .before .before .row-count3 .ensures) at (c .before .document-is-lawful .ensures)) (c .if3 .taken)
 
 values-are-lawful-requires : tie.Need-values-are-lawful-requires
 values-are-lawful-requires c κs = search needs
 
 returns-4 : tie.Need-returns-4
-unfolding byTable conj
 returns-4 c =
-    rw
-    (← by-table,
-    ← (c .before .before .before .before .before .before .before .before .before .before .before .schema-is-sized .ensures),
-    ← (c .before .before .before .before .before .before .before .before .before .before .document-is-sized .ensures),
-    ← (c .before .before .before .before .before .before .before .before .before .values-are-sized .ensures),
-    turned-true (c .before .before .before .before .before .before .before .before .before .before .before .schema-is-sized .result && (c .before .before .before .before .before .before .before .before .before .before .document-is-sized .result && c .before .before .before .before .before .before .before .before .before .values-are-sized .result)) (c .before .before .before .before .before .before .before .before .if1 .left),
-    ← (c .before .before .before .before .before .row-count3 .ensures),
-    ← (c .before .before .before .before .schema-is-lawful .ensures),
-    turned-true (c .before .before .before .before .schema-is-lawful .result) (c .before .before .before .if2 .left),
-    ← (c .before .before .before .before .before .before .before .row-count .ensures),
-    ← (c .before .before .before .before .before .before .row-count2 .ensures),
-    ← (c .before .before .document-is-lawful .ensures),
-    turned-true (c .before .before .document-is-lawful .result) (c .before .if3 .left),
-    c .before .before .before .before .before .row-count3 .ensures)
-    (c .values-are-lawful .ensures)
+    go-values _ (c .before .before .before .before .before .before .before .before .before .before .before .schema-is-sized .result) (c .before .before .before .before .before .before .before .before .before .before .document-is-sized .result) (c .before .before .before .before .before .before .before .before .before .values-are-sized .result)
+    (c .before .before .before .before .schema-is-lawful .result) (c .before .before .document-is-lawful .result) (c .values-are-lawful .result)
+    (c .before .before .before .before .before .before .before .before .before .before .before .schema-is-sized .ensures) (c .before .before .before .before .before .before .before .before .before .before .document-is-sized .ensures) (c .before .before .before .before .before .before .before .before .before .values-are-sized .ensures) (c .before .before .before .before .before .before .before .before .if1 .left)
+    (rw (c .before .before .before .before .before .row-count3 .ensures) at (c .before .before .before .before .schema-is-lawful .ensures)) (c .before .before .before .if2 .left)
+    (rw (c .before .before .before .before .before .before .before .row-count .ensures, c .before .before .before .before .before .before .row-count2 .ensures, c .before .before .before .before .before .row-count3 .ensures) at (c .before .before .document-is-lawful .ensures)) (c .before .if3 .left)
+    (rw (c .before .before .before .before .before .before .before .row-count .ensures) at (c .values-are-lawful .ensures))
 
 pub rows-are-lawful-spec : {M : Type 1} → statement M
 rows-are-lawful-spec =

@@ -51,9 +51,11 @@ one-more sets selections set n r p h e t k l m = go (decLe set k)
 loop-again : tie.Need-loop-again Inv-loop μ-loop
 loop-again c =
     let l = c .before .before .before .before .before .loop in
-    let held = c .before .before .set-holds in
-    (omega (arith, l .inv .0), held .ensures .1,
-    one-more _ _ (l .set) _ (held .result) (c .before .before .before .before .loop-test .taken) (l .inv .2) (held .ensures .0) (c .if1 .left))
+    let held = c .before .before .set-holds in (
+      omega (arith, l .inv .0),
+      held .ensures .1,
+      one-more _ _ (l .set) _ (held .result) (c .before .before .before .before .loop-test .taken) (l .inv .2) (held .ensures .0) (c .if1 .left),
+    )
 
 returns-2 : tie.Need-returns-2 Inv-loop μ-loop
 returns-2 c = sym (all-each _ _ (λ k m. c .before .loop .inv .2 k (omega (arith, c .loop-test .left)) m))

@@ -39,9 +39,11 @@ same-length c = search needs
 returns-2 : tie.Need-returns-2
 unfolding setHolds
 returns-2 c =
-    let start = c .before .before .before .before .before .before .before .before .before .before in
-    (rw (← (start .pre .1 .0), ← (c .before .before .before .before .before .before .set-row .ensures), turned-true (c .before .before .before .before .before .before .set-row .result) (c .before .before .before .before .before .if1 .left), ← (c .before .before .before .set-at .ensures))
-    (c .before .before .children-are-larger .ensures .0), c .before .before .children-are-larger .ensures .1)
+    let start = c .before .before .before .before .before .before .before .before .before .before in (
+      rw (← (start .pre .1 .0), ← (c .before .before .before .before .before .before .set-row .ensures), turned-true (c .before .before .before .before .before .before .set-row .result) (c .before .before .before .before .before .if1 .left), ← (c .before .before .before .set-at .ensures))
+          (c .before .before .children-are-larger .ensures .0),
+      c .before .before .children-are-larger .ensures .1,
+    )
 
 pub set-holds-spec : {M : Type 1} → statement M
 set-holds-spec =

@@ -1,4 +1,5 @@
 -- Assumes nothing.
+use Rattle.tables.specs.ByTable.{conj}
 use borrow.Author.Needs.{needs}
 use Rattle.tables.proofs.sizes.document_is_sized.Statement.{statement}
 use Rattle.tables.proofs.sizes.document_is_sized.Tie as tie
@@ -16,6 +17,7 @@ is-counted-requires-4 : tie.Need-is-counted-requires-4
 is-counted-requires-4 c κs = search needs
 
 returns : tie.Need-returns
+unfolding conj
 returns c = cc
 
 pub document-is-sized-spec : {M : Type 1} → statement M

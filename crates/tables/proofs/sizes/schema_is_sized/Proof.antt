@@ -1,4 +1,5 @@
 -- Assumes nothing.
+use Rattle.tables.specs.ByTable.{conj}
 use borrow.Author.Needs.{needs}
 use Rattle.tables.proofs.sizes.schema_is_sized.Statement.{statement}
 use Rattle.tables.proofs.sizes.schema_is_sized.Tie as tie
@@ -19,6 +20,7 @@ is-counted-requires-5 : tie.Need-is-counted-requires-5
 is-counted-requires-5 c κs = search needs
 
 returns : tie.Need-returns
+unfolding conj
 returns c = cc
 
 pub schema-is-sized-spec : {M : Type 1} → statement M
