@@ -4,7 +4,7 @@ use mathlib.Core.Path.{_≡_, refl, sym, _∙_}
 use mathlib.Core.Bool.{Bool, true, false, _&&_}
 use mathlib.Core.List.{List}
 use Prim.Native.Nat.{ℕ, suc, _+_, _-_, _≤_, _<_, max}
-use native.Mathlib.Nat.{add-sub-cancel-left, zero-add, le-of-lt, max-eq-left, max-eq-right}
+use native.Mathlib.Nat.{add-sub-cancel-left, zero-add, max-eq-left, max-eq-right}
 use native.Mathlib.Decide.{decLe}
 use native.Mathlib.Numerals.{add-one}
 use native.Mathlib.Omega.{arith}
@@ -59,6 +59,18 @@ module _ (other : ℕ → ℕ → Bool) where
   differ-more : (first count : ℕ) → differ other first (count + 1) ≡ (differ other first count && isOther other first count)
   unfolding differ all
   differ-more first count = rw add-one
+
+  differ-one : (first : ℕ) → differ other first 1 ≡ true
+  unfolding differ isOther all
+  differ-one first = refl
+
+  -- fewer than two rows have no double
+  pub differ-few : (first n : ℕ) → n < 2 → differ other first n ≡ true
+  differ-few first n h = go (decLe n 0)
+    where
+      go : Dec (n ≤ 0) → differ other first n ≡ true
+      go (yes l) = let e : n ≡ 0 = omega arith in rw e (differ-none first)
+      go (no l) = let e : n ≡ 1 = omega arith in rw e (differ-one first)
 
   -- no row has been looked at
   pub since-none : (since : List ℕ) → getD since 0 0 ≡ 0 → Since other 0 since

@@ -1,8 +1,8 @@
 -- Equal bytes have equal hashes, so rows of different hashes have different texts. Assumes nothing.
 use mathlib.Core.Path.{_≡_, refl, sym, ap, _∙_}
-use mathlib.Core.Bool.{Bool, true, false, not, _&&_, false≢true}
+use mathlib.Core.Bool.{Bool, true, false, not, false≢true}
 use mathlib.Core.List.{List, [], _∷_}
-use Prim.Native.Nat.{ℕ, suc, _+_, _*_, _-_, _/_, _%_, _≤_, _<_}
+use Prim.Native.Nat.{ℕ, _+_, _*_, _%_, _<_}
 use native.Mathlib.Numerals.{add-one}
 use native.Mathlib.Omega.{arith}
 use lib.Dec.{eqb}
@@ -29,8 +29,8 @@ unfolding same
 same-self [] = refl
 same-self (x ∷ a) = rw (eq-eqb x x refl) (same-self a)
 
--- one word more
-pub hash-more : (bytes : List ℕ) (n i : ℕ) → i ≡ 4 * n → hashSteps bytes (n + 1) ≡ mixed (hashSteps bytes n) (wordAt bytes i)
+-- eight bytes more
+pub hash-more : (bytes : List ℕ) (n i : ℕ) → i ≡ 8 * n → hashSteps bytes (n + 1) ≡ mixed (hashSteps bytes n) (wordAt bytes i) (wordAt bytes (i + 4))
 unfolding hashSteps
 hash-more bytes n i e = rw (add-one, e)
 

@@ -1,5 +1,6 @@
 pub mod Differ
 pub mod Chains
 pub mod HashLaws
-pub mod Marked
 pub mod Kept
+pub mod Plain
+pub mod Marked

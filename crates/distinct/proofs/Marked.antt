@@ -10,7 +10,7 @@ use lib.Dec.{eqb}
 use lib.ListN as ListN
 use lib.ListN.{length, getD, set, length-set, replicate, length-replicate, getD-replicate}
 use lib.Seq.{getD-set-same, getD-set-other}
-use borrow.Author.Tests.{eqb-true, eqb-false, eq-eqb, ne-eqb}
+use borrow.Author.Tests.{eqb-true, eqb-false, ne-eqb}
 use Rattle.rows.specs.Layout.{selectionWidth, fragmentWidth}
 use Rattle.rows.specs.Rows.{all, cell, rowsOf}
 use Rattle.rules.specs.Rows.{isNew}

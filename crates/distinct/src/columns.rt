@@ -38,6 +38,7 @@ pub fn note_since(t: &[u32], width: usize, column: usize, since: &mut [u16]) -> 
     let rows = rows_to_note(t, width, since.len());
     let mut lasts = [0u16; 512];
     since[0] = 0;
+    let mut from: u16 = 0;
     let mut row: usize = 0;
     while row < rows {
         let word = cell(t, width, row, column) as usize;
@@ -46,8 +47,8 @@ pub fn note_since(t: &[u32], width: usize, column: usize, since: &mut [u16]) -> 
         }
         let last = lasts[word];
         lasts[word] = (row + 1) as u16;
-        let from = since[row];
-        since[row + 1] = later(from, last);
+        from = later(from, last);
+        since[row + 1] = from;
         row += 1;
     }
     row

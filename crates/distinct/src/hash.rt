@@ -1,4 +1,4 @@
-// A hash of bytes, four bytes a step. Equal bytes have equal hashes, and nothing else is said of it: who finds two of one hash compares.
+// A hash of bytes, eight bytes a step. Equal bytes have equal hashes, and nothing else is said of it: who finds two of one hash compares.
 ghost use mathlib.Core.Path.{_≡_};
 ghost use Prim.Native.Nat.{_+_, _*_, _-_, _≤_, _<_, _^_};
 ghost use lib.ListN.{length, getD};
@@ -26,46 +26,48 @@ fn whole_word_at(bytes: &[u8], i: usize) -> u64
     joined(bytes[i], bytes[i + 1], bytes[i + 2], bytes[i + 3])
 }
 
-// The first four bytes; 0 for those that are not there.
-fn first_word(bytes: &[u8]) -> u64
-    ensures { λ r. ⌜ (r ≡ wordAt (now (bytes .entry)) 0) × (r < 2 ^ 32) ⌝ }
+// The four bytes from a place on; 0 for those past the end.
+fn word_at(bytes: &[u8], i: usize) -> u64
+    requires { ⌜ i ≤ length (now bytes) ⌝ }
+    ensures { λ r. ⌜ (r ≡ wordAt (now (bytes .entry)) i) × (r < 2 ^ 32) ⌝ }
 {
+    if i + 4 <= bytes.len() {
+        return whole_word_at(bytes, i);
+    }
     joined(
-        byte_at(bytes, 0),
-        byte_at(bytes, 1),
-        byte_at(bytes, 2),
-        byte_at(bytes, 3),
+        byte_at(bytes, i),
+        byte_at(bytes, i + 1),
+        byte_at(bytes, i + 2),
+        byte_at(bytes, i + 3),
     )
 }
 
-// The factor is odd and below 2^31, so that the product of a sum of two words stays below 2^64.
-fn mix(hash: u64, word: u64) -> u64
-    requires { ⌜ (hash < 2 ^ 32) × (word < 2 ^ 32) ⌝ }
-    ensures { λ r. ⌜ (r ≡ mixed hash word) × (r < 2 ^ 32) ⌝ }
+// So many places before the end n, or the first one.
+fn before_end(n: usize, places: usize) -> usize
+    ensures { λ r. ⌜ r ≡ n - places ⌝ }
 {
-    (hash + word) * 1640531527 / 65536 % 4294967296
+    if n < places { 0 } else { n - places }
 }
 
-// The last four bytes; short texts have their first.
-fn last_word(bytes: &[u8]) -> u64
-    ensures { λ r. ⌜ (r ≡ wordAt (now (bytes .entry)) (length (now (bytes .entry)) - 4)) × (r < 2 ^ 32) ⌝ }
+// The factors are odd, and so small that the sum stays below 2^64.
+fn mix(hash: u64, one: u64, two: u64) -> u64
+    requires { ⌜ (hash < 2 ^ 32) × (one < 2 ^ 32) × (two < 2 ^ 32) ⌝ }
+    ensures { λ r. ⌜ (r ≡ mixed hash one two) × (r < 2 ^ 32) ⌝ }
 {
-    let n = bytes.len();
-    if n < 4 {
-        return first_word(bytes);
-    }
-    whole_word_at(bytes, n - 4)
+    ((hash + one) * 1013904223 + two * 1640531527) / 65536 % 4294967296
 }
 
 pub fn hash_of(bytes: &[u8]) -> u16
     ensures { λ r. ⌜ r ≡ hashOf (now (bytes .entry)) ⌝ }
 {
     let n = bytes.len();
-    let mut hash: u64 = 0;
+    let mut hash = (n % 4294967296) as u64;
     let mut i: usize = 0;
-    while i + 4 <= n {
-        hash = mix(hash, whole_word_at(bytes, i));
-        i += 4;
+    while i + 8 <= n {
+        hash = mix(hash, whole_word_at(bytes, i), whole_word_at(bytes, i + 4));
+        i += 8;
     }
-    (mix(hash, last_word(bytes)) / 256 % 65536) as u16
+    let one = word_at(bytes, before_end(n, 8));
+    let two = word_at(bytes, before_end(n, 4));
+    (mix(hash, one, two) / 256 % 65536) as u16
 }

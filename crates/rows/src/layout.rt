@@ -39,6 +39,15 @@ pub fn cell(t: &[u32], width: usize, row: usize, column: usize) -> u32
     if at < t.len() { t[at] } else { 0 }
 }
 
+// The same, where the row is there.
+pub fn word(t: &[u32], width: usize, row: u32, column: usize) -> u32
+    requires { ⌜ (width ≤ 16) × (column < width) ⌝ }
+    requires { ⌜ row < rowsOf (now t) width ⌝ }
+    ensures { λ r. ⌜ r ≡ Rows·cell (now (t .entry)) width row column ⌝ }
+{
+    t[(row as usize) * width + column]
+}
+
 pub(crate) fn optional_row(word: u32) -> Optional
     ensures { λ r. ⌜ r ≡ optionOf word ⌝ }
 {

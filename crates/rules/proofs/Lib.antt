@@ -1,3 +1,3 @@
 pub mod Marks
 pub mod Reserved
-pub mod Since
+pub mod Words

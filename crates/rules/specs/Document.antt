@@ -5,7 +5,7 @@ use mathlib.Core.Bool.{Bool, true, false, not, _&&_, cond}
 use Prim.Native.Nat.{ℕ, _+_}
 use lib.Dec.{ltb, eqb}
 use Rattle.rows.specs.Layout.{selectionWidth, givenWidth, fragmentWidth}
-use Rattle.rows.specs.Rows.{all, cell, rowsOf}
+use Rattle.rows.specs.Rows.{all, cell, rowsOf, optionOf}
 use Rattle.rows.specs.Document.{setAt, selectionOf, selectionAt, givenAt, fragmentAt}
 use Rattle.rules.specs.Rows.{isRow, rowOrNone, within, isNew, distinct}
 use Rattle.rows.specs.declared.layout.Range.{Range}
@@ -36,6 +36,14 @@ abbrev pub fieldSelectionLawful : ℕ → ℕ → ℕ → ℕ → FieldSelection
 fieldSelectionLawful names refs sets given field =
     ((isRow names (field .name) && isRow names (field .key)) && (within given (field .given) && isRow refs (field .ty)))
     && isRow sets (field .set)
+
+-- what a selection of this kind is, with this name, or with these fields' words
+abbrev pub selectedOf : ℕ → ℕ → FieldSelection → Selected
+selectedOf kind name field =
+    cond (eqb kind 0) (Field field)
+    (cond (eqb kind 1) (Spread name)
+    (cond (eqb kind 2) (Inline (optionOf name) (field .set))
+    Unknown))
 
 -- a field, a spread or an inline fragment, whose rows are all there
 abbrev pub whatLawful : ℕ → ℕ → ℕ → ℕ → Selected → Bool

@@ -6,6 +6,5 @@ pub mod Schema
 pub mod Document
 pub mod Json
 pub mod Answers
--- What two searches keep while they go on. No public contract cites them.
+-- What a search keeps while it goes on. No public contract cites it.
 pub mod Marks
-pub mod Keys

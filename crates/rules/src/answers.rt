@@ -1,5 +1,6 @@
 // What the answers of the resolvers have to obey.
 ghost use mathlib.Core.Path.{_≡_};
+ghost use Rattle.rows.specs.Answers.{answerOf};
 ghost use Rattle.rules.specs.Answers.{answerLawful, answerRow, answerParts, answerNamesDiffer, isObject, rootAnswer};
 use crate::layout::is_distinct;
 use crate::layout::is_within;
@@ -7,18 +8,29 @@ use rows::answers::ANSWER_WIDTH;
 use rows::answers::Answer;
 use rows::answers::answer_at;
 use rows::answers::answer_name;
+use rows::layout::Range;
+use rows::layout::cell;
 
-fn answer_is_lawful(names: u32, nodes: u32, answers: u32, answer: Answer) -> bool
-    ensures { λ r. ⌜ r ≡ answerLawful names nodes answers answer ⌝ }
+// Of an answer's words: the kind, and three by kind.
+pub fn answer_is_lawful(
+    names: u32,
+    nodes: u32,
+    answers: u32,
+    kind: u32,
+    a: u32,
+    b: u32,
+    c: u32,
+) -> bool
+    ensures { λ r. ⌜ r ≡ answerLawful names nodes answers (answerOf kind a b c) ⌝ }
 {
-    match answer {
-        Answer::Skip => true,
-        Answer::Error => true,
-        Answer::Leaf(node) => node < nodes,
-        Answer::List(rows) => is_within(answers, rows),
-        Answer::Object { ty, fields } => (ty < names) & is_within(answers, fields),
-        Answer::Echo(name) => name < names,
-        Answer::Unknown => false,
+    match kind {
+        0 => true,
+        1 => true,
+        2 => a < nodes,
+        3 => is_within(answers, Range { first: a, count: b }),
+        4 => (a < names) & is_within(answers, Range { first: b, count: c }),
+        5 => a < names,
+        _ => false,
     }
 }
 
@@ -26,7 +38,12 @@ fn answer_is_lawful(names: u32, nodes: u32, answers: u32, answer: Answer) -> boo
 pub fn answer_row(names: u32, nodes: u32, count: u32, answers: &[u32], row: u32) -> bool
     ensures { λ r. ⌜ r ≡ answerRow names nodes count (now (answers .entry)) row ⌝ }
 {
-    let lawful = answer_is_lawful(names, nodes, count, answer_at(answers, row));
+    let at = row as usize;
+    let kind = cell(answers, ANSWER_WIDTH, at, 0);
+    let a = cell(answers, ANSWER_WIDTH, at, 2);
+    let b = cell(answers, ANSWER_WIDTH, at, 3);
+    let c = cell(answers, ANSWER_WIDTH, at, 4);
+    let lawful = answer_is_lawful(names, nodes, count, kind, a, b, c);
     (answer_name(answers, row) < names) & lawful
 }
 

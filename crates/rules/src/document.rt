@@ -1,21 +1,17 @@
 // What the operation's tables have to obey: sets of selections, arguments given, fragments.
 ghost use mathlib.Core.Path.{_≡_};
 ghost use Prim.Native.Nat.{_<_, _^_};
-ghost use Rattle.rules.specs.Document.{setRow, conditionLawful, fieldSelectionLawful, whatLawful, selectionLawful, selectionRow, givenRow, givenOf, givenDiffer, fragmentRow, fragmentNameNew, ownedOf, ownedSet, largerThan, childLarger, childrenLarger, childSetsLarger, ownsOther, ownedNowhere, alone, selectionOwnsAlone, fragmentOwnsAlone};
+ghost use Rattle.rows.specs.Document.{conditionOf};
+ghost use Rattle.rules.specs.Document.{setRow, conditionLawful, selectedOf, whatLawful, selectionLawful, selectionRow, givenRow, givenOf, givenDiffer, fragmentRow, fragmentNameNew, ownedOf, ownedSet, largerThan, childLarger, childrenLarger, childSetsLarger, ownsOther, ownedNowhere, alone, selectionOwnsAlone, fragmentOwnsAlone};
 use crate::layout::is_distinct;
 use crate::layout::is_new;
-use crate::layout::is_row_or_none;
 use crate::layout::is_within;
-use rows::document::Condition;
 use rows::document::FRAGMENT_WIDTH;
-use rows::document::FieldSelection;
 use rows::document::GIVEN_WIDTH;
 use rows::document::SELECTION_WIDTH;
 use rows::document::Selected;
-use rows::document::Selection;
 use rows::document::fragment_at;
 use rows::document::given_at;
-use rows::document::selection_at;
 use rows::document::set_at;
 use rows::document::what_is_selected;
 use rows::layout::Optional;
@@ -29,56 +25,70 @@ pub fn set_row(selections: u32, sets: &[u32], row: u32) -> bool
     is_within(selections, set_at(sets, row))
 }
 
-fn condition_is_lawful(names: u32, condition: Condition) -> bool
-    ensures { λ r. ⌜ r ≡ conditionLawful names condition ⌝ }
+// Of a skip's or an include's word.
+fn condition_is_lawful(names: u32, word: u32) -> bool
+    ensures { λ r. ⌜ r ≡ conditionLawful names (conditionOf word) ⌝ }
 {
-    match condition {
-        Condition::Absent => true,
-        Condition::False => true,
-        Condition::True => true,
-        Condition::Variable(name) => name < names,
-    }
+    (word as u64) < (names as u64) + 3
 }
 
-fn field_selection_is_lawful(
+// Of a selection's words, what is selected: the kind, and six by kind.
+fn what_is_lawful(
     names: u32,
     type_refs: u32,
     sets: u32,
     given: u32,
-    field: FieldSelection,
+    kind: u32,
+    name: u32,
+    key: u32,
+    its_given: Range,
+    set: u32,
+    ty: u32,
 ) -> bool
-    ensures { λ r. ⌜ r ≡ fieldSelectionLawful names «type_refs» sets given field ⌝ }
+    ensures { λ r. ⌜ r ≡ whatLawful names «type_refs» sets given (selectedOf kind name (record { name = name; key = key; given = «its_given»; set = set; ty = ty })) ⌝ }
 {
-    let its_given = field.given;
-    let named = (field.name < names) & (field.key < names);
-    (named & (is_within(given, its_given) & (field.ty < type_refs))) & (field.set < sets)
-}
-
-fn what_is_lawful(names: u32, type_refs: u32, sets: u32, given: u32, what: Selected) -> bool
-    ensures { λ r. ⌜ r ≡ whatLawful names «type_refs» sets given what ⌝ }
-{
-    match what {
-        Selected::Field(field) => field_selection_is_lawful(names, type_refs, sets, given, field),
-        Selected::Spread { name } => name < names,
-        Selected::Inline { condition, set } => is_row_or_none(names, condition) & (set < sets),
-        Selected::Unknown => false,
+    match kind {
+        0 => {
+            (((name < names) & (key < names)) & (is_within(given, its_given) & (ty < type_refs)))
+                & (set < sets)
+        }
+        1 => name < names,
+        2 => (name <= names) & (set < sets),
+        _ => false,
     }
 }
 
-fn selection_is_lawful(
+// Of all of a selection's words but its place.
+pub fn selection_is_lawful(
     names: u32,
     type_refs: u32,
     sets: u32,
     given: u32,
-    selection: Selection,
+    kind: u32,
+    skip: u32,
+    include: u32,
+    name: u32,
+    key: u32,
+    its_given: Range,
+    set: u32,
+    ty: u32,
 ) -> bool
-    ensures { λ r. ⌜ r ≡ selectionLawful names «type_refs» sets given selection ⌝ }
+    ensures { λ r. ⌜ r ≡ selectionLawful names «type_refs» sets given (record { what = selectedOf kind name (record { name = name; key = key; given = «its_given»; set = set; ty = ty }); skip = conditionOf skip; include = conditionOf include; place = 0 }) ⌝ }
 {
-    let skip = selection.skip;
-    let include = selection.include;
-    let what = selection.what;
     let conditions = condition_is_lawful(names, skip) & condition_is_lawful(names, include);
-    conditions & what_is_lawful(names, type_refs, sets, given, what)
+    conditions
+        & what_is_lawful(
+            names,
+            type_refs,
+            sets,
+            given,
+            kind,
+            name,
+            key,
+            its_given,
+            set,
+            ty,
+        )
 }
 
 pub fn selection_row(
@@ -91,7 +101,32 @@ pub fn selection_row(
 ) -> bool
     ensures { λ r. ⌜ r ≡ selectionRow names «type_refs» sets given (now (selections .entry)) row ⌝ }
 {
-    selection_is_lawful(names, type_refs, sets, given, selection_at(selections, row))
+    let at = row as usize;
+    let kind = cell(selections, SELECTION_WIDTH, at, 0);
+    let skip = cell(selections, SELECTION_WIDTH, at, 1);
+    let include = cell(selections, SELECTION_WIDTH, at, 2);
+    let name = cell(selections, SELECTION_WIDTH, at, 4);
+    let key = cell(selections, SELECTION_WIDTH, at, 5);
+    let its_given = Range {
+        first: cell(selections, SELECTION_WIDTH, at, 6),
+        count: cell(selections, SELECTION_WIDTH, at, 7),
+    };
+    let set = cell(selections, SELECTION_WIDTH, at, 8);
+    let ty = cell(selections, SELECTION_WIDTH, at, 9);
+    selection_is_lawful(
+        names,
+        type_refs,
+        sets,
+        given,
+        kind,
+        skip,
+        include,
+        name,
+        key,
+        its_given,
+        set,
+        ty,
+    )
 }
 
 pub fn given_row(names: u32, literals: u32, given: &[u32], row: u32) -> bool
@@ -173,7 +208,7 @@ fn is_larger_than(set: u32, owned: Optional) -> bool
     }
 }
 
-fn child_is_larger(selections: &[u32], set: u32, row: usize) -> bool
+pub fn child_is_larger(selections: &[u32], set: u32, row: usize) -> bool
     requires { ⌜ row < 2 ^ 40 ⌝ }
     ensures { λ r. ⌜ r ≡ childLarger (now (selections .entry)) set row ⌝ }
 {

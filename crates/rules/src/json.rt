@@ -1,5 +1,8 @@
 // What JSON nodes, literals and the values of variables have to obey.
 ghost use mathlib.Core.Path.{_≡_};
+ghost use mathlib.Core.Bool.{true};
+ghost use Rattle.text.specs.Utf8.{isUtf8};
+ghost use Rattle.rows.specs.Json.{nodeOf, literalOf};
 ghost use Rattle.rules.specs.Json.{isNegative, nodeLawful, nodeRow, nodeKeyRow, literalLawful, literalRow, literalParts, literalKeysDiffer, variableRow, variableNameNew};
 use crate::layout::is_distinct;
 use crate::layout::is_later;
@@ -8,13 +11,15 @@ use crate::strings::is_float_text;
 use crate::strings::is_string;
 use rows::json::LITERAL_WIDTH;
 use rows::json::Literal;
-use rows::json::Node;
+use rows::json::NODE_WIDTH;
 use rows::json::VARIABLE_WIDTH;
 use rows::json::literal_at;
 use rows::json::literal_key;
-use rows::json::node_at;
 use rows::json::node_key;
 use rows::json::variable_at;
+use rows::layout::Range;
+use rows::layout::cell;
+use rows::strings::Text;
 
 // A magnitude from 1 to 2^63.
 fn is_negative(low: u32, high: u32) -> bool
@@ -24,60 +29,98 @@ fn is_negative(low: u32, high: u32) -> bool
     (1 <= magnitude) & (magnitude <= 9223372036854775808)
 }
 
-fn node_is_lawful(pool: &[u8], nodes: u32, row: u32, node: Node) -> bool
-    ensures { λ r. ⌜ r ≡ nodeLawful (now (pool .entry)) nodes row node ⌝ }
+// Of a node's words: the kind, and two by kind. `count` is how many nodes there are; `whole`, that the pool is known to be UTF-8 as a
+// whole.
+pub fn node_is_lawful(
+    pool: &[u8],
+    whole: bool,
+    count: u32,
+    row: u32,
+    kind: u32,
+    a: u32,
+    b: u32,
+) -> bool
+    requires { ⌜ (whole ≡ true → isUtf8 (now pool) ≡ true) ⌝ }
+    ensures { λ r. ⌜ r ≡ nodeLawful (now (pool .entry)) count row (nodeOf kind a b) ⌝ }
 {
-    match node {
-        Node::Null => true,
-        Node::False => true,
-        Node::True => true,
-        Node::Natural { low: _, high: _ } => true,
-        Node::Negative { low, high } => is_negative(low, high),
-        Node::Float(text) => is_float_text(pool, text),
-        Node::String(text) => is_string(pool, text),
-        Node::Array(rows) => is_later(nodes, row, rows),
-        Node::Object(rows) => is_later(nodes, row, rows),
-        Node::Unknown => false,
+    match kind {
+        0 => true,
+        1 => true,
+        2 => true,
+        3 => true,
+        4 => is_negative(a, b),
+        5 => is_float_text(pool, Text { start: a, len: b }),
+        6 => is_string(pool, whole, Text { start: a, len: b }),
+        7 => is_later(count, row, Range { first: a, count: b }),
+        8 => is_later(count, row, Range { first: a, count: b }),
+        _ => false,
     }
 }
 
-// `count` is how many nodes there are.
-pub fn node_row(pool: &[u8], count: u32, nodes: &[u32], row: u32) -> bool
+pub fn node_row(pool: &[u8], whole: bool, count: u32, nodes: &[u32], row: u32) -> bool
+    requires { ⌜ (whole ≡ true → isUtf8 (now pool) ≡ true) ⌝ }
     ensures { λ r. ⌜ r ≡ nodeRow (now (pool .entry)) count (now (nodes .entry)) row ⌝ }
 {
-    node_is_lawful(pool, count, row, node_at(nodes, row))
+    let at = row as usize;
+    let kind = cell(nodes, NODE_WIDTH, at, 0);
+    let a = cell(nodes, NODE_WIDTH, at, 1);
+    let b = cell(nodes, NODE_WIDTH, at, 2);
+    node_is_lawful(pool, whole, count, row, kind, a, b)
 }
 
-pub fn node_key_row(pool: &[u8], nodes: &[u32], row: u32) -> bool
+pub fn node_key_row(pool: &[u8], whole: bool, nodes: &[u32], row: u32) -> bool
+    requires { ⌜ (whole ≡ true → isUtf8 (now pool) ≡ true) ⌝ }
     ensures { λ r. ⌜ r ≡ nodeKeyRow (now (pool .entry)) (now (nodes .entry)) row ⌝ }
 {
-    is_string(pool, node_key(nodes, row as usize))
+    is_string(pool, whole, node_key(nodes, row as usize))
 }
 
-fn literal_is_lawful(pool: &[u8], names: u32, literals: u32, row: u32, literal: Literal) -> bool
-    ensures { λ r. ⌜ r ≡ literalLawful (now (pool .entry)) names literals row literal ⌝ }
+// Of a literal's words: the kind, and two by kind. `count` is how many literals there are.
+pub fn literal_is_lawful(
+    pool: &[u8],
+    whole: bool,
+    names: u32,
+    count: u32,
+    row: u32,
+    kind: u32,
+    a: u32,
+    b: u32,
+) -> bool
+    requires { ⌜ (whole ≡ true → isUtf8 (now pool) ≡ true) ⌝ }
+    ensures { λ r. ⌜ r ≡ literalLawful (now (pool .entry)) names count row (literalOf kind a b) ⌝ }
 {
-    match literal {
-        Literal::Null => true,
-        Literal::False => true,
-        Literal::True => true,
-        Literal::Natural(n) => n < 2147483648,
-        Literal::Negative(m) => (1 <= m) & (m <= 2147483648),
-        Literal::Float(text) => is_float_text(pool, text),
-        Literal::String(text) => is_string(pool, text),
-        Literal::List(rows) => is_later(literals, row, rows),
-        Literal::Object(rows) => is_later(literals, row, rows),
-        Literal::Enum(name) => name < names,
-        Literal::Variable(name) => name < names,
-        Literal::Unknown => false,
+    match kind {
+        0 => true,
+        1 => true,
+        2 => true,
+        3 => a < 2147483648,
+        4 => (1 <= a) & (a <= 2147483648),
+        5 => is_float_text(pool, Text { start: a, len: b }),
+        6 => is_string(pool, whole, Text { start: a, len: b }),
+        7 => is_later(count, row, Range { first: a, count: b }),
+        8 => is_later(count, row, Range { first: a, count: b }),
+        9 => a < names,
+        10 => a < names,
+        _ => false,
     }
 }
 
-// `count` is how many literals there are.
-pub fn literal_row(pool: &[u8], names: u32, count: u32, literals: &[u32], row: u32) -> bool
+pub fn literal_row(
+    pool: &[u8],
+    whole: bool,
+    names: u32,
+    count: u32,
+    literals: &[u32],
+    row: u32,
+) -> bool
+    requires { ⌜ (whole ≡ true → isUtf8 (now pool) ≡ true) ⌝ }
     ensures { λ r. ⌜ r ≡ literalRow (now (pool .entry)) names count (now (literals .entry)) row ⌝ }
 {
-    let lawful = literal_is_lawful(pool, names, count, row, literal_at(literals, row));
+    let at = row as usize;
+    let kind = cell(literals, LITERAL_WIDTH, at, 0);
+    let a = cell(literals, LITERAL_WIDTH, at, 1);
+    let b = cell(literals, LITERAL_WIDTH, at, 2);
+    let lawful = literal_is_lawful(pool, whole, names, count, row, kind, a, b);
     (literal_key(literals, row) < names) & lawful
 }
 

@@ -1,20 +1,10 @@
 // What the tables have in common: rows that are there, ranges of them, how many there are, and words that differ.
 ghost use mathlib.Core.Path.{_≡_};
 ghost use Prim.Native.Nat.{_+_, _≤_, _<_, _^_};
-ghost use Rattle.rules.specs.Rows.{within, later, counted, other, isNew, distinct, rowOrNone};
+ghost use Rattle.rules.specs.Rows.{within, later, counted, other, isNew, distinct};
 ghost use Rattle.rules.specs.Marks.{Met};
-use rows::layout::Optional;
 use rows::layout::Range;
 use rows::layout::cell;
-
-pub(crate) fn is_row_or_none(count: u32, row: Optional) -> bool
-    ensures { λ r. ⌜ r ≡ rowOrNone count row ⌝ }
-{
-    match row {
-        Optional::Absent => true,
-        Optional::Row(n) => n < count,
-    }
-}
 
 pub(crate) fn is_within(count: u32, rows: Range) -> bool
     ensures { λ r. ⌜ r ≡ within count rows ⌝ }

@@ -8,4 +8,4 @@ pub mod keys;
 pub mod layout;
 pub mod names;
 pub mod schema;
-mod strings;
+pub mod strings;

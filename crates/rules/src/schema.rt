@@ -1,39 +1,46 @@
 // What the schema's tables have to obey: type references, types with their members, fields and arguments.
 ghost use mathlib.Core.Path.{_≡_};
+ghost use Rattle.rows.specs.Rows.{optionOf};
+ghost use Rattle.rows.specs.Schema.{typeRefOf};
 ghost use Rattle.rules.specs.Schema.{refLawful, typeRefRow, typeLawful, typeRow, partsLawful, typeParts, typeNameNew, memberRow, fieldLawful, fieldRow, fieldsDiffer, argumentLawful, argumentRow, argumentsDiffer, objectKind, rootType};
 use crate::layout::is_distinct;
 use crate::layout::is_new;
-use crate::layout::is_row_or_none;
 use crate::layout::is_within;
-use rows::layout::Optional;
+use rows::layout::Range;
+use rows::layout::cell;
 use rows::layout::row_count;
 use rows::schema::ARGUMENT_WIDTH;
 use rows::schema::FIELD_WIDTH;
-use rows::schema::Field;
+use rows::schema::TYPE_REF_WIDTH;
 use rows::schema::TYPE_WIDTH;
 use rows::schema::TypeDef;
 use rows::schema::TypeKind;
-use rows::schema::TypeRef;
-use rows::schema::argument_at;
 use rows::schema::field_at;
 use rows::schema::member_at;
 use rows::schema::type_at;
-use rows::schema::type_ref_at;
 
-fn type_ref_is_lawful(names: u32, row: u32, ty: TypeRef) -> bool
-    ensures { λ r. ⌜ r ≡ refLawful names row ty ⌝ }
+// Of a type reference's words: the kind, non-null, and a name or an inner row.
+pub fn type_ref_is_lawful(names: u32, row: u32, kind: u32, non_null: u32, of: u32) -> bool
+    ensures { λ r. ⌜ r ≡ refLawful names row (typeRefOf kind «non_null» of) ⌝ }
 {
-    match ty {
-        TypeRef::Named { name, nullable: _ } => name < names,
-        TypeRef::ListOf { inner, nullable: _ } => inner < row,
-        TypeRef::Unknown => false,
+    if 1 < non_null {
+        return false;
+    }
+    match kind {
+        0 => of < names,
+        1 => of < row,
+        _ => false,
     }
 }
 
 pub fn type_ref_row(names: u32, type_refs: &[u32], row: u32) -> bool
     ensures { λ r. ⌜ r ≡ typeRefRow names (now («type_refs» .entry)) row ⌝ }
 {
-    type_ref_is_lawful(names, row, type_ref_at(type_refs, row))
+    let at = row as usize;
+    let kind = cell(type_refs, TYPE_REF_WIDTH, at, 0);
+    let non_null = cell(type_refs, TYPE_REF_WIDTH, at, 1);
+    let of = cell(type_refs, TYPE_REF_WIDTH, at, 2);
+    type_ref_is_lawful(names, row, kind, non_null, of)
 }
 
 fn type_is_lawful(names: u32, members: u32, fields: u32, ty: TypeDef) -> bool
@@ -84,27 +91,27 @@ pub fn member_row(names: u32, members: &[u32], row: u32) -> bool
     member_at(members, row) < names
 }
 
-// What a field and an argument have in common: a name, a type reference, and a literal for a default or none.
-fn is_typed(
+// What a field and an argument have in common, of their words: a name, a type reference, and a literal for a default or none.
+pub fn is_typed(names: u32, type_refs: u32, literals: u32, name: u32, ty: u32, default: u32) -> bool
+    ensures { λ r. ⌜ r ≡ argumentLawful names «type_refs» literals name ty (optionOf default) ⌝ }
+{
+    ((name < names) & (ty < type_refs)) & (default <= literals)
+}
+
+// Of a field's words: its name, its type reference, its default, and its arguments.
+pub fn field_is_lawful(
     names: u32,
     type_refs: u32,
+    arguments: u32,
     literals: u32,
     name: u32,
     ty: u32,
-    default: Optional,
+    default: u32,
+    its_arguments: Range,
 ) -> bool
-    ensures { λ r. ⌜ r ≡ argumentLawful names «type_refs» literals name ty default ⌝ }
+    ensures { λ r. ⌜ r ≡ fieldLawful names «type_refs» arguments literals (record { name = name; ty = ty; default = optionOf default; place = 0; arguments = «its_arguments» }) ⌝ }
 {
-    ((name < names) & (ty < type_refs)) & is_row_or_none(literals, default)
-}
-
-fn field_is_lawful(names: u32, type_refs: u32, arguments: u32, literals: u32, field: Field) -> bool
-    ensures { λ r. ⌜ r ≡ fieldLawful names «type_refs» arguments literals field ⌝ }
-{
-    let name = field.name;
-    let default = field.default;
-    let its_arguments = field.arguments;
-    let typed = is_typed(names, type_refs, literals, name, field.ty, default);
+    let typed = is_typed(names, type_refs, literals, name, ty, default);
     (name != 0) & (typed & is_within(arguments, its_arguments))
 }
 
@@ -118,7 +125,24 @@ pub fn field_row(
 ) -> bool
     ensures { λ r. ⌜ r ≡ fieldRow names «type_refs» arguments literals (now (fields .entry)) row ⌝ }
 {
-    field_is_lawful(names, type_refs, arguments, literals, field_at(fields, row))
+    let at = row as usize;
+    let name = cell(fields, FIELD_WIDTH, at, 0);
+    let ty = cell(fields, FIELD_WIDTH, at, 1);
+    let default = cell(fields, FIELD_WIDTH, at, 2);
+    let its_arguments = Range {
+        first: cell(fields, FIELD_WIDTH, at, 4),
+        count: cell(fields, FIELD_WIDTH, at, 5),
+    };
+    field_is_lawful(
+        names,
+        type_refs,
+        arguments,
+        literals,
+        name,
+        ty,
+        default,
+        its_arguments,
+    )
 }
 
 pub fn fields_differ(types: &[u32], fields: &[u32], row: u32) -> bool
@@ -132,16 +156,11 @@ pub fn fields_differ(types: &[u32], fields: &[u32], row: u32) -> bool
 pub fn argument_row(names: u32, type_refs: u32, literals: u32, arguments: &[u32], row: u32) -> bool
     ensures { λ r. ⌜ r ≡ argumentRow names «type_refs» literals (now (arguments .entry)) row ⌝ }
 {
-    let argument = argument_at(arguments, row);
-    let default = argument.default;
-    is_typed(
-        names,
-        type_refs,
-        literals,
-        argument.name,
-        argument.ty,
-        default,
-    )
+    let at = row as usize;
+    let name = cell(arguments, ARGUMENT_WIDTH, at, 0);
+    let ty = cell(arguments, ARGUMENT_WIDTH, at, 1);
+    let default = cell(arguments, ARGUMENT_WIDTH, at, 2);
+    is_typed(names, type_refs, literals, name, ty, default)
 }
 
 pub fn arguments_differ(fields: &[u32], arguments: &[u32], row: u32) -> bool

@@ -44,7 +44,7 @@ module _ (width least most : ℕ) (t : List ℕ) (h : counted width least most t
   pub at-most : length t / width ≤ most
   at-most = leb-true (length t / width) most (and-right (leb least (length t / width)) (leb (length t / width) most) sized)
 
-  few : rowsOf t width ≤ most
+  pub few : rowsOf t width ≤ most
   unfolding rowsOf
   few = omega (arith, at-most)
 

@@ -16,10 +16,7 @@ use Rattle.tables.specs.declared.rulebook.Rule.{Rule}
 use Rattle.tables.specs.declared.rulebook.Rule.the-variants as rule
 use Rattle.tables.specs.declared.rulebook.ValueRule.the-variants as value
 use Rattle.tables.proofs.Numbered.{number, numbered}
-use Rattle.tables.specs.Broken.{FirstBroken, isNowhere}
-use Rattle.tables.specs.declared.broken.Broken.{Broken}
-use Rattle.tables.specs.declared.broken.Broken.the-variants.{At, Nowhere}
-use Rattle.rows.proofs.Every.{all-at, all-each, all-broken, falsified, verified}
+use Rattle.rows.proofs.Every.{all-at, all-each, falsified, verified}
 
 module _ (T : Tables) where
   module _ (h : rowsLawful T ≡ true) where
@@ -68,9 +65,3 @@ pub code-lawful : (T : Tables) (r s : Bool) → r ≡ rowsLawful T → not r ≡
     → s ≡ defaultsClosed (T .fields) (T .arguments) (T .literals) → not s ≡ false → 0 ≡ tableCode T
 unfolding tableCode lawful
 code-lawful T r s e n f m = rw (verified r (rowsLawful T) e n, verified s (defaultsClosed (T .fields) (T .arguments) (T .literals)) f m)
-
--- what `first_broken` finds says whether the rule is obeyed
-pub nowhere-obeyed : (r : Rule) (T : Tables) (b : Broken) → FirstBroken r T b → isNowhere b ≡ obeyed r T
-unfolding obeyed
-nowhere-obeyed r T (At row) f = all-broken (holdsAt r T) row (rowsFor r T) (holdsAt r T row) (f .there) refl (rw (f .broken))
-nowhere-obeyed r T Nowhere f = sym f

@@ -1,5 +1,9 @@
+pub mod ByTable
+pub mod Chained
 pub mod Closed
 pub mod Facts
 pub mod Lawful
 pub mod Nested
 pub mod Numbered
+pub mod Parts
+pub mod Skips

@@ -1,7 +1,7 @@
 -- Where a rule of the table check is broken first.
 use Prim.Native.Nat.{ℕ, _<_}
 use mathlib.Core.Path.{_≡_}
-use mathlib.Core.Bool.{Bool, true, false}
+use mathlib.Core.Bool.{true, false}
 use Rattle.rows.specs.Rows.{all}
 use Rattle.tables.specs.Tables.{Tables}
 use Rattle.tables.specs.Rules.{rowsFor, holdsAt, obeyed}
@@ -19,7 +19,3 @@ pub record BreaksFirst (rule : Rule) (T : Tables) (row : ℕ) : Type 0 where
 abbrev pub FirstBroken : Rule → Tables → Broken → Type 0
 FirstBroken rule T (At row) = BreaksFirst rule T row
 FirstBroken rule T Nowhere = obeyed rule T ≡ true
-
-abbrev pub isNowhere : Broken → Bool
-isNowhere (At row) = false
-isNowhere Nowhere = true

@@ -7,7 +7,7 @@ use crate::rulebook::Rule;
 use crate::rulebook::ValueRule;
 use crate::rulebook::rule_holds_at;
 use crate::rulebook::rule_rows;
-use rules::keys::all_node_keys_differ;
+use distinct::keys::all_node_keys_differ;
 
 // The first row at which a rule is broken, if there is one.
 pub enum Broken {

@@ -2,29 +2,25 @@
 ghost use mathlib.Core.Path.{_≡_};
 ghost use Rattle.tables.specs.Tables.{tables};
 ghost use Rattle.tables.specs.Rules.{rowsLawful};
-ghost use Rattle.tables.specs.Broken.{isNowhere};
 ghost use Rattle.tables.specs.Lawful.{tableCode, lawfulBuffers, lawfulChoices};
-use crate::broken::Broken;
-use crate::broken::first_broken;
 use crate::defaults::defaults_are_closed;
-use crate::rulebook::RULE_COUNT;
-use crate::rulebook::rule_at;
+use crate::document::document_is_lawful;
+use crate::schema::schema_is_lawful;
+use crate::sizes::document_is_sized;
+use crate::sizes::schema_is_sized;
+use crate::sizes::values_are_sized;
+use crate::values::values_are_lawful;
+use rows::json::LITERAL_WIDTH;
+use rows::layout::row_count;
 use rows::limits::MOST_CHOICES;
 use rows::limits::MOST_ERROR_WORDS;
 use rows::limits::MOST_TEXT_BYTES;
+use rows::names::NAME_WIDTH;
+use rows::schema::TYPE_REF_WIDTH;
 
 pub const LAWFUL: u32 = 0;
 
 pub const UNLAWFUL: u32 = 1;
-
-fn is_nowhere(broken: Broken) -> bool
-    ensures { λ r. ⌜ r ≡ isNowhere broken ⌝ }
-{
-    match broken {
-        Broken::At(_) => false,
-        Broken::Nowhere => true,
-    }
-}
 
 // Every rule holds at every row that it speaks of.
 fn rows_are_lawful(
@@ -47,33 +43,40 @@ fn rows_are_lawful(
 ) -> bool
     ensures { λ r. ⌜ r ≡ rowsLawful (tables (now (pool .entry)) (now (names .entry)) (now («type_refs» .entry)) (now (types .entry)) (now (members .entry)) (now (fields .entry)) (now (arguments .entry)) (now (sets .entry)) (now (selections .entry)) (now (given .entry)) (now (fragments .entry)) (now (nodes .entry)) (now (literals .entry)) (now (variables .entry)) (now (answers .entry)) root) ⌝ }
 {
-    let mut k: u32 = 0;
-    while k < RULE_COUNT {
-        let broken = first_broken(
-            rule_at(k),
-            pool,
-            names,
-            type_refs,
-            types,
-            members,
-            fields,
-            arguments,
-            sets,
-            selections,
-            given,
-            fragments,
-            nodes,
-            literals,
-            variables,
-            answers,
-            root,
-        );
-        if !is_nowhere(broken) {
-            return false;
-        }
-        k += 1;
+    let sized = schema_is_sized(pool, names, type_refs, types, fields, arguments)
+        & (document_is_sized(sets, selections, given, fragments)
+            & values_are_sized(nodes, literals, variables, answers));
+    if !sized {
+        return false;
     }
-    true
+    let name_count = row_count(names, NAME_WIDTH);
+    let ref_count = row_count(type_refs, TYPE_REF_WIDTH);
+    let literal_count = row_count(literals, LITERAL_WIDTH);
+    if !schema_is_lawful(
+        pool,
+        names,
+        type_refs,
+        types,
+        members,
+        fields,
+        arguments,
+        literal_count,
+        root,
+    ) {
+        return false;
+    }
+    if !document_is_lawful(
+        name_count,
+        ref_count,
+        sets,
+        selections,
+        given,
+        fragments,
+        literal_count,
+    ) {
+        return false;
+    }
+    values_are_lawful(pool, name_count, nodes, literals, variables, answers)
 }
 
 pub fn table_check(

@@ -2,4 +2,8 @@
 pub mod broken;
 pub mod check;
 mod defaults;
+mod document;
 pub mod rulebook;
+mod schema;
+mod sizes;
+mod values;

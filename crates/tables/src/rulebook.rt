@@ -418,11 +418,12 @@ fn value_holds(
     ensures { λ r. ⌜ r ≡ valueSays rule (tables (now (pool .entry)) (now (names .entry)) (now («type_refs» .entry)) (now (types .entry)) (now (members .entry)) (now (fields .entry)) (now (arguments .entry)) (now (sets .entry)) (now (selections .entry)) (now (given .entry)) (now (fragments .entry)) (now (nodes .entry)) (now (literals .entry)) (now (variables .entry)) (now (answers .entry)) root) .holds row ⌝ }
 {
     match rule {
-        ValueRule::NodeRow => node_row(pool, row_count(nodes, NODE_WIDTH), nodes, row),
-        ValueRule::NodeKey => node_key_row(pool, nodes, row),
+        ValueRule::NodeRow => node_row(pool, false, row_count(nodes, NODE_WIDTH), nodes, row),
+        ValueRule::NodeKey => node_key_row(pool, false, nodes, row),
         ValueRule::NodeKeysDiffer => node_keys_differ(pool, nodes, row),
         ValueRule::LiteralRow => literal_row(
             pool,
+            false,
             row_count(names, NAME_WIDTH),
             row_count(literals, LITERAL_WIDTH),
             literals,

@@ -1,5 +1,5 @@
 -- A byte past the end is 0. Assumes nothing.
-use mathlib.Core.Path.{_≡_, refl, sym, _∙_}
+use mathlib.Core.Path.{sym}
 use lib.ListN.{List·getD-eq-default}
 use borrow.Author.Needs.{needs}
 use Rattle.distinct.proofs.hash.byte_at.Statement.{statement}

@@ -1,5 +1,4 @@
--- The sum of two words times the factor fits. Assumes nothing.
-use native.Mathlib.Omega.{arith}
+-- The sum of both products fits. Assumes nothing.
 use Rattle.distinct.specs.Hash.{mixed}
 use borrow.Author.Needs.{needs}
 use Rattle.distinct.proofs.hash.mix.Statement.{statement}
@@ -13,6 +12,8 @@ pub mix-spec : {M : Type 1} → statement M
 mix-spec =
     tie.close
     (tie.spec
+    (λ c. search needs)
+    (λ c. search needs)
     (λ c. search needs)
     (λ c. search needs)
     returns)

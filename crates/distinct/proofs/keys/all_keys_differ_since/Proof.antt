@@ -1,7 +1,7 @@
 -- The keys of the nodes passed differ; a node whose keys do not ends the search. Assumes nothing.
-use mathlib.Core.Path.{_≡_, refl, sym, _∙_}
-use mathlib.Core.Bool.{true, false}
-use Prim.Native.Nat.{ℕ, _+_, _*_, _-_, _/_, _%_, _≤_, _<_, _^_}
+use mathlib.Core.Path.{_≡_}
+use mathlib.Core.Bool.{true}
+use Prim.Native.Nat.{_-_, _≤_}
 use Rattle.rows.specs.Rows.{all}
 use Rattle.rules.specs.Json.{nodeKeysDiffer}
 use Rattle.rows.proofs.Every.{all-none, all-more, all-broken, all-ended}

@@ -1,5 +1,5 @@
 -- The last note says of all rows whether their names differ. Assumes nothing.
-use mathlib.Core.Path.{_≡_, refl, sym, _∙_}
+use mathlib.Core.Path.{refl, _∙_}
 use native.Mathlib.Omega.{arith}
 use Rattle.rows.specs.Names.{nameAt}
 use Rattle.rules.specs.Names.{otherName, nameNew}

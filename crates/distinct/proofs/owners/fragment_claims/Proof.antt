@@ -1,6 +1,5 @@
 -- The mark of the set says whether it is free, and is set then. Assumes nothing.
 use native.Mathlib.Omega.{arith}
-use lib.ListN.{length-set}
 use Rattle.distinct.proofs.Marked.{fragment-past, fragment-marked, fragment-told}
 use borrow.Author.Needs.{needs}
 use Rattle.distinct.proofs.owners.fragment_claims.Statement.{statement}

@@ -1,5 +1,5 @@
 -- The marks that the selections leave serve the fragments. Assumes nothing.
-use mathlib.Core.Path.{_≡_, refl, sym, _∙_}
+use mathlib.Core.Path.{refl}
 use Rattle.rows.proofs.Every.{falsified, verified}
 use Rattle.distinct.proofs.Marked.{selections-first, fragments-first}
 use borrow.Author.Needs.{needs}

@@ -1,5 +1,5 @@
 -- The mark of the set says whether it is free, and is set then. Assumes nothing.
-use mathlib.Core.Path.{_≡_, refl, sym, _∙_}
+use mathlib.Core.Path.{sym, _∙_}
 use native.Mathlib.Omega.{arith}
 use Rattle.distinct.proofs.Marked.{selection-absent, selection-past, selection-marked, selection-told}
 use borrow.Author.Needs.{needs}

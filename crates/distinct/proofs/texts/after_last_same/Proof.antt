@@ -1,6 +1,5 @@
 -- What is passed on the way back differs from the row; a row that is the same ends it. Assumes nothing.
-use mathlib.Core.Path.{_≡_, refl, sym, _∙_}
-use Prim.Native.Nat.{ℕ, _+_, _*_, _-_, _/_, _%_, _≤_, _<_, _^_}
+use Prim.Native.Nat.{_-_}
 use native.Mathlib.Omega.{arith}
 use Rattle.distinct.specs.Differ.{Cursor}
 use Rattle.distinct.specs.Texts.{otherText, textChain}

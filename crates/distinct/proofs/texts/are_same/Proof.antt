@@ -1,5 +1,5 @@
 -- A text is the same as itself. Assumes nothing.
-use mathlib.Core.Path.{_≡_, refl, sym, _∙_}
+use mathlib.Core.Path.{sym}
 use Rattle.distinct.proofs.HashLaws.{same-self}
 use borrow.Author.Needs.{needs}
 use Rattle.distinct.proofs.texts.are_same.Statement.{statement}

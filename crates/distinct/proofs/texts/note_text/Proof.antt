@@ -1,5 +1,5 @@
 -- The row goes to the head of its chain; the way back from it, through its chain, gives its note. Assumes nothing.
-use Prim.Native.Nat.{ℕ, _+_, _*_, _-_, _/_, _%_, _≤_, _<_, _^_}
+use Prim.Native.Nat.{_%_}
 use native.Mathlib.Omega.{arith}
 use lib.ListN.{length-set}
 use Rattle.distinct.proofs.Differ.{since-low}

@@ -1,11 +1,21 @@
 -- Assumes nothing.
+use Rattle.rows.specs.Answers.{answerAt}
 use borrow.Author.Needs.{needs}
 use Rattle.rules.proofs.answers.answer_row.Statement.{statement}
 use Rattle.rules.proofs.answers.answer_row.Tie as tie
 
 returns : tie.Need-returns
+unfolding answerAt
 returns c = cc
 
 pub answer-row-spec : {M : Type 1} → statement M
 answer-row-spec =
-    tie.close (tie.spec (λ c κs. search needs) (λ c κs. search needs) (λ c κs. search needs) returns)
+    tie.close
+    (tie.spec
+    (λ c κs. search needs)
+    (λ c κs. search needs)
+    (λ c κs. search needs)
+    (λ c κs. search needs)
+    (λ c κs. search needs)
+    (λ c κs. search needs)
+    returns)

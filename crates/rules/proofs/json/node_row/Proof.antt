@@ -1,10 +1,14 @@
 -- Assumes nothing.
+use Rattle.rows.specs.Json.{nodeAt}
 use borrow.Author.Needs.{needs}
 use Rattle.rules.proofs.json.node_row.Statement.{statement}
 use Rattle.rules.proofs.json.node_row.Tie as tie
 
 returns : tie.Need-returns
+unfolding nodeAt
 returns c = cc
 
 pub node-row-spec : {M : Type 1} → statement M
-node-row-spec = tie.close (tie.spec (λ c κs. search needs) (λ c κs. search needs) returns)
+node-row-spec =
+    tie.close
+    (tie.spec (λ c κs. search needs) (λ c κs. search needs) (λ c κs. search needs) (λ c κs. search needs) returns)

@@ -1,64 +1,79 @@
--- The rules passed are obeyed; one that is not ends the search. Assumes nothing.
-use mathlib.Core.Path.{_≡_, ap, _∙_}
-use mathlib.Core.Bool.{Bool, true}
-use Prim.Native.Nat.{_≤_, _-_, _+_}
+-- The tests table by table are the rules. Assumes nothing.
+use mathlib.Core.Bool.{_&&_}
+use Rattle.tables.proofs.ByTable.{stop-sizes, stop-schema, stop-document, go-values, sized-names, sized-selections}
 use borrow.Author.Needs.{needs}
-use Rattle.rows.specs.Rows.{all}
-use Rattle.tables.specs.Tables.{Tables, tables}
-use Rattle.tables.specs.Rules.{ruleAt, obeyed, rowsLawful}
-use Rattle.tables.specs.Broken.{FirstBroken, isNowhere}
-use Rattle.tables.specs.declared.rulebook.Rule.{Rule}
-use Rattle.tables.specs.declared.broken.Broken.{Broken}
-use Rattle.tables.proofs.Lawful.{nowhere-obeyed}
-use Rattle.rows.proofs.Every.{all-none, all-more, all-broken, all-ended}
 use Rattle.tables.proofs.check.rows_are_lawful.Statement.{statement}
 use Rattle.tables.proofs.check.rows_are_lawful.Tie as tie
 
-abbrev Inv-loop : tie.InvT-loop
-Inv-loop pool names type-refs types members fields arguments sets selections given fragments nodes literals variables answers root k₀ k = (k ≤ 46) × (all (λ n. obeyed (ruleAt n) (tables pool names type-refs types members fields arguments sets selections given fragments nodes literals variables answers root)) k ≡ true)
+schema-is-sized-requires : tie.Need-schema-is-sized-requires
+schema-is-sized-requires c κs = search needs
 
-abbrev μ-loop : tie.MeasureT-loop
-μ-loop pool names type-refs types members fields arguments sets selections given fragments nodes literals variables answers root k₀ k = 46 - k
+document-is-sized-requires : tie.Need-document-is-sized-requires
+document-is-sized-requires c κs = search needs
 
-loop-holds : tie.Need-loop-holds Inv-loop μ-loop
-loop-holds c = (search needs, all-none _)
+values-are-sized-requires : tie.Need-values-are-sized-requires
+values-are-sized-requires c κs = search needs
 
--- what the search for the next rule answers is whether it is obeyed
-next : (rule found : Rule) (T : Tables) (b : Broken) (r : Bool) → rule ≡ found → FirstBroken rule T b → r ≡ isNowhere b → r ≡ obeyed found T
-next rule found T b r e f h = h ∙ (nowhere-obeyed rule T b f ∙ ap (λ (x : Rule). obeyed x T) e)
-
-returns : tie.Need-returns Inv-loop μ-loop
-unfolding rowsLawful
+returns : tie.Need-returns
 returns c =
-    let found = c .before .before in
-    all-broken _ (found .before .before .before .loop .k) _ (c .before .is-nowhere .result) (found .before .before .loop-test .taken)
-    (next (found .before .rule-at .result) _ _ (found .first-broken .result) _ (found .before .rule-at .ensures) (found .first-broken .ensures) (c .before .is-nowhere .ensures)) (c .if1 .taken)
+    stop-sizes _ (c .before .before .before .schema-is-sized .result) (c .before .before .document-is-sized .result) (c .before .values-are-sized .result)
+    (c .before .before .before .schema-is-sized .ensures) (c .before .before .document-is-sized .ensures) (c .before .values-are-sized .ensures) (c .if1 .taken)
 
-loop-again : tie.Need-loop-again Inv-loop μ-loop
-loop-again c =
-    let found = c .before .before in
-    let turn = found .before .before .before .loop in (
-      search needs,
-      all-more _ (turn .k) (c .before .is-nowhere .result) (turn .inv .1)
-          (next (found .before .rule-at .result) _ _ (found .first-broken .result) _ (found .before .rule-at .ensures) (found .first-broken .ensures) (c .before .is-nowhere .ensures)) (c .if1 .left),
-    )
+row-count-requires : tie.Need-row-count-requires
+row-count-requires c κs = search needs
 
-returns-2 : tie.Need-returns-2 Inv-loop μ-loop
-unfolding rowsLawful
-returns-2 c = all-ended _ (c .before .loop .k) _ (c .before .loop .inv .1) (c .before .loop .inv .0) (c .loop-test .left)
+row-count-requires-2 : tie.Need-row-count-requires-2
+row-count-requires-2 c κs = search needs
+
+row-count-requires-3 : tie.Need-row-count-requires-3
+row-count-requires-3 c κs = search needs
+
+schema-is-lawful-requires : tie.Need-schema-is-lawful-requires
+schema-is-lawful-requires c κs =
+    sized-names _ (c .before .before .before .before .before .before .schema-is-sized .result)
+    (c .before .before .before .before .before .document-is-sized .result && c .before .before .before .before .values-are-sized .result)
+    _ _ (c .before .before .before .before .before .before .schema-is-sized .ensures) (c .before .before .before .if1 .left)
+
+returns-2 : tie.Need-returns-2
+returns-2 c =
+    stop-schema _ (c .before .schema-is-lawful .result) (rw (c .before .before .row-count3 .ensures) at (c .before .schema-is-lawful .ensures)) (c .if2 .taken)
+
+document-is-lawful-requires : tie.Need-document-is-lawful-requires
+document-is-lawful-requires c κs =
+    sized-selections _ (c .before .before .before .before .before .before .before .before .schema-is-sized .result) (c .before .before .before .before .before .before .before .document-is-sized .result)
+    (c .before .before .before .before .before .before .values-are-sized .result) _ _ (c .before .before .before .before .before .before .before .document-is-sized .ensures) (c .before .before .before .before .before .if1 .left)
+
+returns-3 : tie.Need-returns-3
+returns-3 c =
+    stop-document _ (c .before .document-is-lawful .result)
+    (rw (c .before .before .before .before .before .before .row-count .ensures, c .before .before .before .before .before .row-count2 .ensures, c .before .before .before .before .row-count3 .ensures) at (c .before .document-is-lawful .ensures)) (c .if3 .taken)
+
+values-are-lawful-requires : tie.Need-values-are-lawful-requires
+values-are-lawful-requires c κs = search needs
+
+returns-4 : tie.Need-returns-4
+returns-4 c =
+    go-values _ (c .before .before .before .before .before .before .before .before .before .before .before .schema-is-sized .result) (c .before .before .before .before .before .before .before .before .before .before .document-is-sized .result) (c .before .before .before .before .before .before .before .before .before .values-are-sized .result)
+    (c .before .before .before .before .schema-is-lawful .result) (c .before .before .document-is-lawful .result) (c .values-are-lawful .result)
+    (c .before .before .before .before .before .before .before .before .before .before .before .schema-is-sized .ensures) (c .before .before .before .before .before .before .before .before .before .before .document-is-sized .ensures) (c .before .before .before .before .before .before .before .before .before .values-are-sized .ensures) (c .before .before .before .before .before .before .before .before .if1 .left)
+    (rw (c .before .before .before .before .before .row-count3 .ensures) at (c .before .before .before .before .schema-is-lawful .ensures)) (c .before .before .before .if2 .left)
+    (rw (c .before .before .before .before .before .before .before .row-count .ensures, c .before .before .before .before .before .before .row-count2 .ensures, c .before .before .before .before .before .row-count3 .ensures) at (c .before .before .document-is-lawful .ensures)) (c .before .if3 .left)
+    (rw (c .before .before .before .before .before .before .before .row-count .ensures) at (c .values-are-lawful .ensures))
 
 pub rows-are-lawful-spec : {M : Type 1} → statement M
 rows-are-lawful-spec =
     tie.close
     (tie.spec
-    Inv-loop
-    μ-loop
-    loop-holds
-    (λ c κs. search needs)
-    (λ c κs. search needs)
-    (λ c κs. search needs)
+    schema-is-sized-requires
+    document-is-sized-requires
+    values-are-sized-requires
     returns
-    (λ c. search needs)
-    (λ c. search needs)
-    loop-again
-    returns-2)
+    row-count-requires
+    row-count-requires-2
+    row-count-requires-3
+    schema-is-lawful-requires
+    returns-2
+    document-is-lawful-requires
+    returns-3
+    values-are-lawful-requires
+    returns-4)

@@ -1,4 +1,5 @@
 -- Assumes nothing.
+use mathlib.Core.Bool.{false≢true}
 use borrow.Author.Needs.{needs}
 use Rattle.tables.proofs.rulebook.value_holds.Statement.{statement}
 use Rattle.tables.proofs.rulebook.value_holds.Tie as tie
@@ -39,15 +40,15 @@ value-holds-spec =
     (tie.spec
     (λ c. search needs)
     (λ c κs. search needs)
-    (λ c κs. search needs)
+    (λ c κs e. absurd (false≢true e))
+    (λ c. search needs)
+    (λ c κs e. absurd (false≢true e))
     (λ c. search needs)
     (λ c κs. search needs)
     (λ c. search needs)
     (λ c κs. search needs)
-    (λ c. search needs)
     (λ c κs. search needs)
-    (λ c κs. search needs)
-    (λ c κs. search needs)
+    (λ c κs e. absurd (false≢true e))
     (λ c. search needs)
     (λ c κs. search needs)
     (λ c. search needs)

@@ -1,0 +1,27 @@
+-- Each byte is what its callee ensures. Assumes nothing.
+use mathlib.Core.Path.{_∙_}
+use Rattle.distinct.specs.Hash.{wordAt}
+use borrow.Author.Needs.{needs}
+use Rattle.distinct.proofs.hash.word_at.Statement.{statement}
+use Rattle.distinct.proofs.hash.word_at.Tie as tie
+
+returns-2 : tie.Need-returns-2
+unfolding wordAt
+returns-2 c = (c .joined .ensures .0 ∙ (rw (c .before .byte-at4 .ensures, c .before .before .byte-at3 .ensures, c .before .before .before .byte-at2 .ensures, c .before .before .before .before .byte-at .ensures)), c .joined .ensures .1)
+
+pub word-at-spec : {M : Type 1} → statement M
+word-at-spec =
+    tie.close
+    (tie.spec
+    (λ c. search needs)
+    (λ c κs. search needs)
+    (λ c. search needs)
+    (λ c κs. search needs)
+    (λ c. search needs)
+    (λ c κs. search needs)
+    (λ c. search needs)
+    (λ c κs. search needs)
+    (λ c. search needs)
+    (λ c κs. search needs)
+    (λ c κs. search needs)
+    returns-2)
