@@ -1,7 +1,7 @@
 -- How the last row of each value, and the row before each row in its chain, follow the rows; and why who walks a chain back passes no
 -- row that is the same: rows that are the same have the same value. Assumes nothing.
 use mathlib.Core.Path.{_≡_, refl, sym, _∙_}
-use mathlib.Core.Bool.{Bool, true, false, not, true≢false}
+use mathlib.Core.Bool.{Bool, true, false, not}
 use mathlib.Core.List.{List}
 use Prim.Native.Nat.{ℕ, _+_, _-_, _≤_, _<_}
 use native.Mathlib.Decide.{decLe}
@@ -9,7 +9,7 @@ use native.Mathlib.Omega.{arith}
 use lib.Dec.{eqb}
 use lib.ListN.{length, getD, set, length-set, replicate, length-replicate, getD-replicate}
 use lib.Seq.{getD-set-same, getD-set-other}
-use borrow.Author.Tests.{eqb-true, eqb-false, eq-eqb, ne-eqb, not-true}
+use borrow.Author.Tests.{eqb-true, eqb-false, eq-eqb, ne-eqb, not-true, not-false}
 use Rattle.distinct.specs.Differ.{AfterLast, AfterValue, Lasts, Links, Cursor}
 use Rattle.distinct.proofs.Differ.{after-pass, after-fail, after-none}
 
@@ -18,7 +18,10 @@ module _ (value : ℕ → ℕ) where
     -- no row has been looked at
     pub lasts-none : Lasts value size 0 (replicate size 0)
     lasts-none =
-        record { sized = length-replicate {A = ℕ} size 0; noted = λ v h. rw (getD-replicate {A = ℕ} size v 0 0 h) (after-none (λ j. not (eqb v (value j)))) }
+        record {
+          sized = length-replicate {A = ℕ} size 0;
+          noted = λ v h. rw (getD-replicate {A = ℕ} size v 0 0 h) (after-none (λ j. not (eqb v (value j))));
+        }
 
     -- the next row is the last one of its value
     pub lasts-one : (count v : ℕ) (lasts : List ℕ) → Lasts value size count lasts → v ≡ value count → v < size
@@ -66,18 +69,8 @@ module _ (value : ℕ → ℕ) where
     cursor-start row v head e a = record {
       high = a .high;
       passed = λ j l m. valued row j (λ f. off v j (a .others j l m) (e ∙ f));
-      met = λ h. go (value (head - 1)) refl (a .last h);
+      met = λ h. sym (eqb-true v (value (head - 1)) (not-false (eqb v (value (head - 1))) (a .last h))) ∙ e;
     }
-      where
-        go : (w : ℕ) → value (head - 1) ≡ w → not (eqb v w) ≡ false → w ≡ value row
-        go w f n = sym (eqb-true v w (not-false-eqb v w n)) ∙ e
-          where
-            not-false-eqb : (a b : ℕ) → not (eqb a b) ≡ false → eqb a b ≡ true
-            not-false-eqb a b x = flip (eqb a b) x
-              where
-                flip : (c : Bool) → not c ≡ false → c ≡ true
-                flip true y = refl
-                flip false y = absurd (true≢false y)
 
     -- past a row that differs
     pub cursor-step : (row cursor next : ℕ) → Cursor other value row cursor → 0 < cursor → other row (cursor - 1) ≡ true
@@ -100,6 +93,7 @@ module _ (value : ℕ → ℕ) where
         → AfterLast (other row) from row cursor
     cursor-found row from cursor c h e = record { low = omega arith; high = c .high; others = c .passed; last = λ k. e }
 
-    pub cursor-end : (row from cursor : ℕ) → Cursor other value row cursor → cursor ≤ from → from ≤ row → AfterLast (other row) from row from
+    pub cursor-end : (row from cursor : ℕ) → Cursor other value row cursor → cursor ≤ from → from ≤ row
+        → AfterLast (other row) from row from
     cursor-end row from cursor c h k =
         record { low = omega arith; high = k; others = λ j l m. c .passed j (omega arith) m; last = λ n. absurd (omega arith) }

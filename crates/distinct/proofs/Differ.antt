@@ -19,7 +19,8 @@ use Rattle.distinct.specs.Differ.{isOther, differ, Since, AfterLast}
 module _ (test : ℕ → Bool) where
   -- one row more that passes the test, and one that fails it
   pub after-pass : (from end r : ℕ) → AfterLast test from end r → test end ≡ true → AfterLast test from (end + 1) r
-  after-pass from end r a e = record { low = a .low; high = omega (arith, a .high); others = λ j l m. go j l m (decLe (suc j) end); last = a .last }
+  after-pass from end r a e =
+      record { low = a .low; high = omega (arith, a .high); others = λ j l m. go j l m (decLe (suc j) end); last = a .last }
     where
       go : (j : ℕ) → r ≤ j → j < end + 1 → Dec (suc j ≤ end) → test j ≡ true
       go j l m (yes n) = a .others j l n
@@ -39,7 +40,9 @@ module _ (test : ℕ → Bool) where
   after-from from end r a h = go (decLe r from)
     where
       go : Dec (r ≤ from) → AfterLast test from end (max from r)
-      go (yes n) = rw (max-eq-left n) (record { low = omega arith; high = h; others = λ j l m. a .others j (omega arith) m; last = λ k. absurd (omega arith) })
+      go (yes n) =
+          rw (max-eq-left n)
+          (record { low = omega arith; high = h; others = λ j l m. a .others j (omega arith) m; last = λ k. absurd (omega arith) })
       go (no n) =
           let m : from ≤ r = omega arith in
           rw (max-eq-right m) (record { low = m; high = a .high; others = a .others; last = λ k. a .last (omega arith) })

@@ -30,13 +30,15 @@ same-self [] = refl
 same-self (x ∷ a) = rw (eq-eqb x x refl) (same-self a)
 
 -- eight bytes more
-pub hash-more : (bytes : List ℕ) (n i : ℕ) → i ≡ 8 * n → hashSteps bytes (n + 1) ≡ mixed (hashSteps bytes n) (wordAt bytes i) (wordAt bytes (i + 4))
+pub hash-more : (bytes : List ℕ) (n i : ℕ) → i ≡ 8 * n
+    → hashSteps bytes (n + 1) ≡ mixed (hashSteps bytes n) (wordAt bytes i) (wordAt bytes (i + 4))
 unfolding hashSteps
 hash-more bytes n i e = rw (add-one, e)
 
 module _ (pool t : List ℕ) (width column : ℕ) where
   -- texts of different hashes differ
-  pub hash-other : (one two : ℕ) → (textHash pool t width column one ≡ textHash pool t width column two → ⊥) → otherText pool t width column one two ≡ true
+  pub hash-other : (one two : ℕ) → (textHash pool t width column one ≡ textHash pool t width column two → ⊥)
+      → otherText pool t width column one two ≡ true
   unfolding textHash
   hash-other one two n = go (same (textOf pool (textAt t width column one)) (textOf pool (textAt t width column two))) refl
     where
@@ -45,7 +47,8 @@ module _ (pool t : List ℕ) (width column : ℕ) where
       go false e = refl
 
   -- and so do texts of different chains
-  pub chain-other : (one two : ℕ) → (textChain pool t width column one ≡ textChain pool t width column two → ⊥) → otherText pool t width column one two ≡ true
+  pub chain-other : (one two : ℕ) → (textChain pool t width column one ≡ textChain pool t width column two → ⊥)
+      → otherText pool t width column one two ≡ true
   unfolding textChain
   chain-other one two n = hash-other one two (λ e. n (ap (λ (h : ℕ). h % 2048) e))
 
@@ -53,11 +56,13 @@ module _ (pool t : List ℕ) (width column : ℕ) where
   hashed-none hashes = record { hashed = λ row h. absurd (omega arith) }
 
   -- one more is hashed
-  pub hashed-one : (count : ℕ) (hashes : List ℕ) (hash : ℕ) → Hashed pool t width column count hashes → hash ≡ textHash pool t width column count
+  pub hashed-one : (count : ℕ) (hashes : List ℕ) (hash : ℕ) → Hashed pool t width column count hashes
+      → hash ≡ textHash pool t width column count
       → count < length hashes → Hashed pool t width column (count + 1) (set hashes count hash)
   hashed-one count hashes hash h e k = record { hashed = λ row m. go row m (eqb row count) refl }
     where
-      go : (row : ℕ) → row < count + 1 → (b : Bool) → eqb row count ≡ b → getD (set hashes count hash) row 0 ≡ textHash pool t width column row
+      go : (row : ℕ) → row < count + 1 → (b : Bool) → eqb row count ≡ b
+          → getD (set hashes count hash) row 0 ≡ textHash pool t width column row
       go row m true s = let n : row ≡ count = eqb-true row count s in rw n (getD-set-same hashes count hash 0 k ∙ e)
       go row m false s =
           let n : row ≡ count → ⊥ = eqb-false row count s in

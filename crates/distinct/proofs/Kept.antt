@@ -12,7 +12,8 @@ use Rattle.distinct.proofs.HashLaws.{chain-other, hashed-none, hashed-o
 
 module _ (pool t : List ℕ) (width column : ℕ) where
   -- nothing is kept
-  pub kept-none : (size ends : ℕ) → ends ≡ size + 1 → Kept pool t width column 0 (replicate 2048 0) (replicate size 0) (replicate size 0) (replicate ends 0)
+  pub kept-none : (size ends : ℕ) → ends ≡ size + 1
+      → Kept pool t width column 0 (replicate 2048 0) (replicate size 0) (replicate size 0) (replicate ends 0)
   kept-none size ends e = record {
     headed = lasts-none (textChain pool t width column) 2048;
     linked = links-none (textChain pool t width column) (replicate size 0);
@@ -39,7 +40,8 @@ module _ (pool t : List ℕ) (width column : ℕ) where
 
     -- the next row is kept
     pub kept-one : (s : ℕ) → row < length next → AfterLast (otherText pool t width column row) (getD since row 0) row s
-        → Kept pool t width column (row + 1) (set heads (hash % 2048) (row + 1)) (set next row (getD heads (hash % 2048) 0)) (set hashes row hash) (set since (row + 1) s)
+        → Kept pool t width column (row + 1) (set heads (hash % 2048) (row + 1)) (set next row (getD heads (hash % 2048) 0)) (set hashes row hash)
+        (set since (row + 1) s)
     kept-one s l a = record {
       headed = lasts-one (textChain pool t width column) 2048 row (hash % 2048) heads (k .headed) chained (omega arith);
       linked = links-one (textChain pool t width column) row (getD heads (hash % 2048) 0) next (k .linked)

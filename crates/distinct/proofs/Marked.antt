@@ -36,7 +36,8 @@ marked-one free after marks word m h e =
         rw (e n, s, getD-set-other marks word n 1 0 (eqb-false n word s), m .marked n l) (sym (and-true (free n)))
 
 -- what is taken has no mark of its own
-pub marked-same : (free after : ℕ → Bool) (marks : List ℕ) → Marked free marks → ((n : ℕ) → n < 4096 → after n ≡ free n) → Marked after marks
+pub marked-same : (free after : ℕ → Bool) (marks : List ℕ) → Marked free marks → ((n : ℕ) → n < 4096 → after n ≡ free n)
+    → Marked after marks
 marked-same free after marks m e = record { sized = m .sized; marked = λ n l. m .marked n l ∙ sym (e n l) }
 
 all-free : Marked (λ n. true) (replicate 4096 0)
@@ -46,9 +47,11 @@ module _ (selections : List ℕ) where
   -- before the first selection, all sets but the operation's are free
   pub selections-first : Marked (freeOfSelections selections 0) (set (replicate 4096 0) 0 1)
   unfolding freeOfSelections ownedNowhere all
-  selections-first = marked-one (λ n. true) (freeOfSelections selections 0) (replicate 4096 0) 0 all-free (omega arith) (λ n. and-true (not (eqb n 0)))
+  selections-first =
+      marked-one (λ n. true) (freeOfSelections selections 0) (replicate 4096 0) 0 all-free (omega arith) (λ n. and-true (not (eqb n 0)))
 
-  free-more : (row n : ℕ) (o : Optional) → ownedSet selections row ≡ o → freeOfSelections selections (row + 1) n ≡ (freeOfSelections selections row n && ownsOther n o)
+  free-more : (row n : ℕ) (o : Optional) → ownedSet selections row ≡ o
+      → freeOfSelections selections (row + 1) n ≡ (freeOfSelections selections row n && ownsOther n o)
   unfolding freeOfSelections ownedNowhere all
   free-more row n o e = rw (add-one, e) (sym (and-assoc (not (eqb n 0)) (ownedNowhere selections n row) (ownsOther n o)))
 
@@ -77,17 +80,20 @@ module _ (selections : List ℕ) where
 
   module _ (fragments : List ℕ) where
     -- before the first fragment, those that no selection owns are free
-    pub fragments-first : (marks : List ℕ) → Marked (freeOfSelections selections (rowsOf selections selectionWidth)) marks → Marked (freeOfFragments selections fragments 0) marks
+    pub fragments-first : (marks : List ℕ) → Marked (freeOfSelections selections (rowsOf selections selectionWidth)) marks
+        → Marked (freeOfFragments selections fragments 0) marks
     unfolding freeOfFragments all
     fragments-first marks m =
         marked-same (freeOfSelections selections (rowsOf selections selectionWidth)) (freeOfFragments selections fragments 0) marks m
         (λ n l. and-true (freeOfSelections selections (rowsOf selections selectionWidth) n))
 
-    free-fragment : (row n : ℕ) → freeOfFragments selections fragments (row + 1) n ≡ (freeOfFragments selections fragments row n && not (eqb n (fragmentAt fragments row .set)))
+    free-fragment : (row n : ℕ)
+        → freeOfFragments selections fragments (row + 1) n ≡ (freeOfFragments selections fragments row n && not (eqb n (fragmentAt fragments row .set)))
     unfolding freeOfFragments fragmentAt all
     free-fragment row n =
         rw add-one
-        (sym (and-assoc (freeOfSelections selections (rowsOf selections selectionWidth) n) (all (λ j. not (eqb n (cell fragments fragmentWidth j 2))) row)
+        (sym (and-assoc (freeOfSelections selections (rowsOf selections selectionWidth) n)
+        (all (λ j. not (eqb n (cell fragments fragmentWidth j 2))) row)
         (not (eqb n (cell fragments fragmentWidth row 2)))))
 
     module _ (row : ℕ) (marks : List ℕ) (m : Marked (freeOfFragments selections fragments row) marks) where
@@ -100,7 +106,8 @@ module _ (selections : List ℕ) where
       pub fragment-marked : fragmentAt fragments row .set < 4096
           → Marked (freeOfFragments selections fragments (row + 1)) (ListN.set marks (fragmentAt fragments row .set) 1)
       fragment-marked h =
-          marked-one (freeOfFragments selections fragments row) (freeOfFragments selections fragments (row + 1)) marks (fragmentAt fragments row .set) m h
+          marked-one (freeOfFragments selections fragments row) (freeOfFragments selections fragments (row + 1)) marks
+          (fragmentAt fragments row .set) m h
           (free-fragment row)
 
       pub fragment-told : fragmentAt fragments row .set < 4096

@@ -12,7 +12,7 @@ use Rattle.rows.specs.declared.layout.Range.{Range}
 use Rattle.rows.specs.declared.json.Node.{Node}
 use Rattle.rows.proofs.Every.{all-at, all-each}
 use Rattle.distinct.specs.Differ.{isOther, differ}
-use Rattle.distinct.specs.Texts.{isPlain}
+use Rattle.distinct.specs.Plain.{isPlain}
 use Rattle.distinct.proofs.Differ.{differ-few}
 
 abbrev none : Range

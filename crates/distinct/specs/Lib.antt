@@ -2,4 +2,5 @@
 pub mod Differ
 pub mod Hash
 pub mod Texts
+pub mod Plain
 pub mod Marks

@@ -4,11 +4,8 @@ use mathlib.Core.Bool.{Bool, not}
 use mathlib.Core.List.{List}
 use Prim.Native.Nat.{ℕ, _+_, _%_, _<_}
 use lib.ListN.{length, getD}
-use lib.Dec.{ltb}
 use Rattle.rows.specs.Rows.{cell}
 use Rattle.rows.specs.Strings.{textOf, same}
-use Rattle.rows.specs.Json.{nodeAt}
-use Rattle.rules.specs.Json.{objectRows}
 use Rattle.rows.specs.declared.strings.Text.{Text}
 use Rattle.distinct.specs.Differ.{Since, Lasts, Links}
 use Rattle.distinct.specs.Hash.{hashOf}
@@ -39,7 +36,3 @@ pub record Kept (pool t : List ℕ) (width column count : ℕ) (heads next hashe
   pub told : Since (otherText pool t width column) count since
   pub hashes-sized : length hashes ≡ length next
   pub since-sized : length since ≡ length next + 1
-
--- a node that has fewer than two keys to compare
-abbrev pub isPlain : List ℕ → ℕ → Bool
-isPlain nodes row = ltb (objectRows (nodeAt nodes row) .count) 2

@@ -9,7 +9,7 @@ ghost use Rattle.rows.specs.Rows.{all, rowsOf};
 ghost use Rattle.rows.specs.Json.{nodeAt};
 ghost use Rattle.rules.specs.Json.{objectRows, otherKey, nodeKeysDiffer};
 ghost use Rattle.distinct.specs.Differ.{Since};
-ghost use Rattle.distinct.specs.Texts.{isPlain};
+ghost use Rattle.distinct.specs.Plain.{isPlain};
 use crate::texts::note_texts;
 use rows::json::NODE_WIDTH;
 use rows::layout::Range;

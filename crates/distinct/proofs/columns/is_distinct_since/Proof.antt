@@ -9,11 +9,17 @@ use Rattle.distinct.proofs.columns.is_distinct_since.Statement.{stateme
 use Rattle.distinct.proofs.columns.is_distinct_since.Tie as tie
 
 cast-result : tie.Need-cast-result
-cast-result c = omega (arith, c .shared-slice-known3 .given (c .before .before .before .before .before .args .rows .first + c .before .before .before .before .before .args .rows .count))
+cast-result c =
+    let passed = c .before .before .before .before .before .args in
+    omega (arith, c .shared-slice-known3 .given (passed .rows .first + passed .rows .count))
 
 returns : tie.Need-returns
 unfolding distinct isNew differ isOther
-returns c = since-range _ _ _ (c .before .before .before .before .before .pre .1 .1) (c .before .before .before .before .before .args .rows .first) (c .before .before .before .before .before .args .rows .count) (c .before .if1 .taken)
+returns c =
+    let asked = c .before .before .before .before .before .pre in
+    let passed = c .before .before .before .before .before .args in
+    let branch = c .before .if1 in
+    since-range _ _ _ (asked .1 .1) (passed .rows .first) (passed .rows .count) (branch .taken)
 
 pub is-distinct-since-spec : {M : Type 1} → statement M
 is-distinct-since-spec =

@@ -1,4 +1,4 @@
--- Each row passed is the last one of its word so far and has its note; the next note follows from the one before and from the last row of the word. Assumes nothing.
+-- The next note follows from the one before and from the last row that has the word. Assumes nothing.
 use mathlib.Core.Path.{_≡_, refl, sym, _∙_}
 use Prim.Native.Nat.{_+_, _-_, _≤_, _<_}
 use native.Mathlib.Omega.{arith}
@@ -14,7 +14,12 @@ use Rattle.distinct.proofs.columns.note_since.Statement.{statement}
 use Rattle.distinct.proofs.columns.note_since.Tie as tie
 
 abbrev Inv-loop : tie.InvT-loop
-Inv-loop t width column since₀ rows lasts₀ from₀ row₀ since lasts from row = (row ≤ rows) × (length since ≡ length since₀) × Lasts (λ j. cell t width j column) 512 row lasts × Since (other t width column) row since × (from ≡ getD since row 0)
+Inv-loop t width column since₀ rows lasts₀ from₀ row₀ since lasts from row =
+    (row ≤ rows)
+    × (length since ≡ length since₀)
+    × Lasts (λ j. cell t width j column) 512 row lasts
+    × Since (other t width column) row since
+    × (from ≡ getD since row 0)
 
 abbrev μ-loop : tie.MeasureT-loop
 μ-loop t width column since₀ rows lasts₀ from₀ row₀ since lasts from row = rows - row
@@ -25,7 +30,10 @@ loop-holds c =
     (search needs, refl, lasts-none _ 512, since-none _ _ z, sym z)
 
 same-length : tie.Need-same-length Inv-loop μ-loop
-same-length c = c .before .before .before .loop .inv .1 ∙ length-set (c .before .before .before .before .before .before .before .args .since .now) 0 0
+same-length c =
+    let turn = c .before .before .before .loop in
+    let passed = c .before .before .before .before .before .before .before .args in
+    turn .inv .1 ∙ length-set (passed .since .now) 0 0
 
 returns : tie.Need-returns Inv-loop μ-loop
 returns c = (omega (arith, simp length-set at (c .before .before .before .loop .inv .1)), c .before .before .before .loop .inv .3)
@@ -35,15 +43,18 @@ slice-write-since-2 c = omega (arith, simp length-set at (c .before .before .bef
 
 loop-again : tie.Need-loop-again Inv-loop μ-loop
 loop-again c =
-    let room : c .before .before .before .before .loop .row + 1 < length (c .before .before .before .before .loop .since) = omega (arith, simp length-set at (c .before .before .before .before .loop .inv .1)) in (
+    let turn = c .before .before .before .before .loop in
+    let cell = c .before .before .cell in
+    let branch = c .before .if1 in
+    let room : turn .row + 1 < length (turn .since) = omega (arith, simp length-set at (turn .inv .1)) in (
       search needs,
-      length-set (c .before .before .before .before .loop .since) (c .before .before .before .before .loop .row + 1) (c .later .result) ∙ c .before .before .before .before .loop .inv .1,
-      lasts-one _ _ _ _ _ (c .before .before .before .before .loop .inv .2) (c .before .before .cell .ensures) (c .before .if1 .left),
-      since-one _ _ _ (c .before .before .before .before .loop .inv .3) (c .later .result)
-          (rw (c .later .ensures, c .before .before .before .before .loop .inv .4)
-          (after-from _ _ _ _ (lasts-found _ _ _ _ _ (c .before .before .before .before .loop .inv .2) (c .before .before .cell .ensures) (c .before .if1 .left)) (since-low _ _ _ (c .before .before .before .before .loop .inv .3))))
+      length-set (turn .since) (turn .row + 1) (c .later .result) ∙ turn .inv .1,
+      lasts-one _ _ _ _ _ (turn .inv .2) (cell .ensures) (branch .left),
+      since-one _ _ _ (turn .inv .3) (c .later .result)
+          (rw (c .later .ensures, turn .inv .4)
+          (after-from _ _ _ _ (lasts-found _ _ _ _ _ (turn .inv .2) (cell .ensures) (branch .left)) (since-low _ _ _ (turn .inv .3))))
           room,
-      sym (getD-set-same (c .before .before .before .before .loop .since) (c .before .before .before .before .loop .row + 1) (c .later .result) 0 room),
+      sym (getD-set-same (turn .since) (turn .row + 1) (c .later .result) 0 room),
     )
 
 same-length-2 : tie.Need-same-length-2 Inv-loop μ-loop

@@ -21,10 +21,19 @@ loop-holds c = (search needs, search needs, refl, search needs)
 
 loop-again : tie.Need-loop-again Inv-loop μ-loop
 loop-again c =
-    let e : (c .before .before .before .before .loop .i + 8) / 8 ≡ c .before .before .before .before .loop .i / 8 + 1 = omega arith in (
+    let turn = c .before .before .before .before .loop in
+    let whole-word-at = c .before .before .whole-word-at in
+    let whole-word-at2 = c .before .whole-word-at2 in
+    let e : (turn .i + 8) / 8 ≡ turn .i / 8 + 1 = omega arith in (
       search needs,
       search needs,
-      rw (e, hash-more _ (c .before .before .before .before .loop .i / 8) (c .before .before .before .before .loop .i) (c .before .before .before .before .loop .inv .1), ← (c .before .before .before .before .loop .inv .2), ← (c .before .before .whole-word-at .ensures .0), ← (c .before .whole-word-at2 .ensures .0))
+      rw (
+        e,
+        hash-more _ (turn .i / 8) (turn .i) (turn .inv .1),
+        ← (turn .inv .2),
+        ← (whole-word-at .ensures .0),
+        ← (whole-word-at2 .ensures .0),
+      )
           (c .mix .ensures .0),
       search needs,
     )
@@ -32,8 +41,22 @@ loop-again c =
 returns : tie.Need-returns Inv-loop μ-loop
 unfolding hashOf
 returns c =
-    let e : length (c .before .before .before .before .before .before .before .before .args .bytes .now) / 8 ≡ c .before .before .before .before .before .before .loop .i / 8 = omega arith in
-    rw (e, ← (c .before .before .before .before .before .before .loop .inv .2), ← (c .before .before .before .before .before-end .ensures), ← (c .before .before .before .word-at .ensures .0), ← (c .before .before .before-end2 .ensures), ← (c .before .word-at2 .ensures .0), ← (c .mix2 .ensures .0))
+    let passed = c .before .before .before .before .before .before .before .before .args in
+    let turn = c .before .before .before .before .before .before .loop in
+    let before-end = c .before .before .before .before .before-end in
+    let word-at = c .before .before .before .word-at in
+    let before-end2 = c .before .before .before-end2 in
+    let word-at2 = c .before .word-at2 in
+    let e : length (passed .bytes .now) / 8 ≡ turn .i / 8 = omega arith in
+    rw (
+      e,
+      ← (turn .inv .2),
+      ← (before-end .ensures),
+      ← (word-at .ensures .0),
+      ← (before-end2 .ensures),
+      ← (word-at2 .ensures .0),
+      ← (c .mix2 .ensures .0),
+    )
 
 pub hash-of-spec : {M : Type 1} → statement M
 hash-of-spec =

@@ -7,7 +7,12 @@ use Rattle.distinct.proofs.hash.word_at.Tie as tie
 
 returns-2 : tie.Need-returns-2
 unfolding wordAt
-returns-2 c = (c .joined .ensures .0 ∙ (rw (c .before .byte-at4 .ensures, c .before .before .byte-at3 .ensures, c .before .before .before .byte-at2 .ensures, c .before .before .before .before .byte-at .ensures)), c .joined .ensures .1)
+returns-2 c =
+    let byte-at4 = c .before .byte-at4 in
+    let byte-at3 = c .before .before .byte-at3 in
+    let byte-at2 = c .before .before .before .byte-at2 in
+    let byte-at = c .before .before .before .before .byte-at in
+    (c .joined .ensures .0 ∙ (rw (byte-at4 .ensures, byte-at3 .ensures, byte-at2 .ensures, byte-at .ensures)), c .joined .ensures .1)
 
 pub word-at-spec : {M : Type 1} → statement M
 word-at-spec =

@@ -19,13 +19,25 @@ loop-holds : tie.Need-loop-holds Inv-loop μ-loop
 loop-holds c = (search needs, all-none _)
 
 returns : tie.Need-returns Inv-loop μ-loop
-returns c = rw (← (c .before .before .before .before .row-count .ensures)) (all-broken _ (c .before .before .before .loop .row) _ (c .before .keys-differ-since .result) (c .before .before .loop-test .taken) (c .before .keys-differ-since .ensures) (c .if1 .taken))
+returns c =
+    let row-count = c .before .before .before .before .row-count in
+    let turn = c .before .before .before .loop in
+    let keys-differ-since = c .before .keys-differ-since in
+    let test = c .before .before .loop-test in
+    rw (← (row-count .ensures))
+    (all-broken _ (turn .row) _ (keys-differ-since .result) (test .taken) (keys-differ-since .ensures) (c .if1 .taken))
 
 loop-again : tie.Need-loop-again Inv-loop μ-loop
-loop-again c = (search needs, all-more _ (c .before .before .before .loop .row) (c .before .keys-differ-since .result) (c .before .before .before .loop .inv .1) (c .before .keys-differ-since .ensures) (c .if1 .left))
+loop-again c =
+    let turn = c .before .before .before .loop in
+    let keys-differ-since = c .before .keys-differ-since in
+    (search needs, all-more _ (turn .row) (keys-differ-since .result) (turn .inv .1) (keys-differ-since .ensures) (c .if1 .left))
 
 returns-2 : tie.Need-returns-2 Inv-loop μ-loop
-returns-2 c = rw (← (c .before .before .row-count .ensures)) (all-ended _ (c .before .loop .row) _ (c .before .loop .inv .1) (c .before .loop .inv .0) (c .loop-test .left))
+returns-2 c =
+    let row-count = c .before .before .row-count in
+    let turn = c .before .loop in
+    rw (← (row-count .ensures)) (all-ended _ (turn .row) _ (turn .inv .1) (turn .inv .0) (c .loop-test .left))
 
 pub all-keys-differ-since-spec : {M : Type 1} → statement M
 all-keys-differ-since-spec =

@@ -5,7 +5,7 @@ use Prim.Native.Nat.{_-_, _≤_}
 use native.Mathlib.Omega.{arith}
 use borrow.Author.Tests.{lt-ltb}
 use Rattle.rows.specs.Rows.{all}
-use Rattle.distinct.specs.Texts.{isPlain}
+use Rattle.distinct.specs.Plain.{isPlain}
 use Rattle.rows.proofs.Every.{all-none, all-more}
 use borrow.Author.Needs.{needs}
 use Rattle.distinct.proofs.keys.end_of_children.Statement.{statement}
@@ -21,11 +21,14 @@ loop-holds : tie.Need-loop-holds Inv-loop μ-loop
 loop-holds c = (search needs, search needs, λ e. all-none _)
 
 loop-again : tie.Need-loop-again Inv-loop μ-loop
-loop-again c = (
-  search needs,
-  search needs,
-  λ e. all-more _ (c .before .before .before .loop .row) true (c .before .before .before .loop .inv .2 (omega arith)) (rw (← (c .before .object-rows-at .ensures)) (sym (lt-ltb _ 2 (c .later-end .ensures .2 e)))) refl,
-)
+loop-again c =
+    let turn = c .before .before .before .loop in
+    let object-rows-at = c .before .object-rows-at in (
+      search needs,
+      search needs,
+      λ e. all-more _ (turn .row) true (turn .inv .2 (omega arith)) (rw (← (object-rows-at .ensures))
+          (sym (lt-ltb _ 2 (c .later-end .ensures .2 e)))) refl,
+    )
 
 returns : tie.Need-returns Inv-loop μ-loop
 returns c =

@@ -9,11 +9,18 @@ use Rattle.distinct.proofs.keys.keys_differ_since.Statement.{statement}
 use Rattle.distinct.proofs.keys.keys_differ_since.Tie as tie
 
 cast-result : tie.Need-cast-result
-cast-result c = omega (arith, c .shared-slice-known4 .given (c .before .before .before .object-rows-at .result .first + c .before .before .before .object-rows-at .result .count))
+cast-result c =
+    let object-rows-at = c .before .before .before .object-rows-at in
+    omega (arith, c .shared-slice-known4 .given (object-rows-at .result .first + object-rows-at .result .count))
 
 returns : tie.Need-returns
 unfolding keysDistinct keyNew differ isOther
-returns c = rw (← (c .before .before .before .object-rows-at .ensures)) (since-range _ _ _ (c .before .before .before .before .before .before .before .pre .1) (c .before .before .before .object-rows-at .result .first) (c .before .before .before .object-rows-at .result .count) (c .before .if1 .taken))
+returns c =
+    let object-rows-at = c .before .before .before .object-rows-at in
+    let asked = c .before .before .before .before .before .before .before .pre in
+    let branch = c .before .if1 in
+    rw (← (object-rows-at .ensures))
+    (since-range _ _ _ (asked .1) (object-rows-at .result .first) (object-rows-at .result .count) (branch .taken))
 
 pub keys-differ-since-spec : {M : Type 1} → statement M
 keys-differ-since-spec =

@@ -15,7 +15,10 @@ note-texts-requires c κs = ((search needs, search needs, omega arith, omega ari
 
 returns : tie.Need-returns
 unfolding nameNew nameAt textAt
-returns c = rw (← (c .before .before .before .before .before .before .before .before .before .row-count .ensures)) (since-all _ _ _ (c .before .before .before .before .note-texts .ensures .told) ∙ differ-first (otherName _ _) (nameNew _ _) _ (λ row. refl))
+returns c =
+    let row-count = c .before .before .before .before .before .before .before .before .before .row-count in
+    let note-texts = c .before .before .before .before .note-texts in
+    rw (← (row-count .ensures)) (since-all _ _ _ (note-texts .ensures .told) ∙ differ-first (otherName _ _) (nameNew _ _) _ (λ row. refl))
 
 pub all-names-differ-spec : {M : Type 1} → statement M
 all-names-differ-spec =

@@ -6,7 +6,11 @@ use Rattle.distinct.proofs.owners.fragment_claims.Statement.{statement}
 use Rattle.distinct.proofs.owners.fragment_claims.Tie as tie
 
 returns : tie.Need-returns
-returns c = (c .fragment-owns-alone .ensures, fragment-past _ _ _ _ (c .before .before .before .before .before .before .pre) (rw (c .before .before .fragment-at .ensures) at (c .before .if1 .taken)))
+returns c =
+    let asked = c .before .before .before .before .before .before .pre in
+    let fragment-at = c .before .before .fragment-at in
+    let branch = c .before .if1 in
+    (c .fragment-owns-alone .ensures, fragment-past _ _ _ _ asked (rw (fragment-at .ensures) at (branch .taken)))
 
 slice-read-mark : tie.Need-slice-read-mark
 slice-read-mark c = omega (arith, c .before .before .before .before .before .before .pre .sized)
@@ -15,7 +19,15 @@ slice-write-marks : tie.Need-slice-write-marks
 slice-write-marks c = omega (arith, c .before .before .before .before .before .before .pre .sized)
 
 returns-2 : tie.Need-returns-2
-returns-2 c = rw (c .before .before .fragment-at .ensures) (fragment-told _ _ _ _ (c .before .before .before .before .before .before .pre) (rw (c .before .before .fragment-at .ensures) at (c .before .if1 .left)), fragment-marked _ _ _ _ (c .before .before .before .before .before .before .pre) (rw (c .before .before .fragment-at .ensures) at (c .before .if1 .left)))
+returns-2 c =
+    let fragment-at = c .before .before .fragment-at in
+    let asked = c .before .before .before .before .before .before .pre in
+    let branch = c .before .if1 in
+    rw (fragment-at .ensures) (
+      fragment-told _ _ _ _ asked (rw (fragment-at .ensures) at (branch .left)),
+      fragment-marked _ _ _ _ asked
+          (rw (fragment-at .ensures) at (branch .left)),
+    )
 
 pub fragment-claims-spec : {M : Type 1} → statement M
 fragment-claims-spec =

@@ -11,7 +11,10 @@ use Rattle.distinct.proofs.owners.fragments_claim.Statement.{statement}
 use Rattle.distinct.proofs.owners.fragments_claim.Tie as tie
 
 abbrev Inv-loop : tie.InvT-loop
-Inv-loop selections fragments marks₀ rows row₀ marks row = (row ≤ rows) × (all (fragmentOwnsAlone selections fragments) row ≡ true) × Marked (freeOfFragments selections fragments row) marks
+Inv-loop selections fragments marks₀ rows row₀ marks row =
+    (row ≤ rows)
+    × (all (fragmentOwnsAlone selections fragments) row ≡ true)
+    × Marked (freeOfFragments selections fragments row) marks
 
 abbrev μ-loop : tie.MeasureT-loop
 μ-loop selections fragments marks₀ rows row₀ marks row = rows - row
@@ -20,19 +23,37 @@ loop-holds : tie.Need-loop-holds Inv-loop μ-loop
 loop-holds c = (search needs, all-none _, c .before .before .before .before .pre)
 
 same-length : tie.Need-same-length Inv-loop μ-loop
-same-length c = c .before .before .before .fragment-claims .ensures .1 .sized ∙ sym (c .before .before .before .before .before .before .before .before .before .before .before .pre .sized)
+same-length c =
+    let fragment-claims = c .before .before .before .fragment-claims in
+    let asked = c .before .before .before .before .before .before .before .before .before .before .before .pre in
+    fragment-claims .ensures .1 .sized ∙ sym (asked .sized)
 
 returns : tie.Need-returns Inv-loop μ-loop
-returns c = rw (← (c .before .before .before .before .before .before .before .row-count .ensures)) (all-broken _ (c .before .before .before .before .before .before .loop .row) _ (c .before .before .before .fragment-claims .result) (c .before .before .before .before .before .loop-test .taken) (c .before .before .before .fragment-claims .ensures .0) (c .if1 .taken))
+returns c =
+    let row-count = c .before .before .before .before .before .before .before .row-count in
+    let turn = c .before .before .before .before .before .before .loop in
+    let fragment-claims = c .before .before .before .fragment-claims in
+    let test = c .before .before .before .before .before .loop-test in
+    rw (← (row-count .ensures))
+    (all-broken _ (turn .row) _ (fragment-claims .result) (test .taken) (fragment-claims .ensures .0) (c .if1 .taken))
 
 loop-again : tie.Need-loop-again Inv-loop μ-loop
-loop-again c = (search needs, all-more _ (c .before .before .before .before .before .before .loop .row) (c .before .before .before .fragment-claims .result) (c .before .before .before .before .before .before .loop .inv .1) (c .before .before .before .fragment-claims .ensures .0) (c .if1 .left), c .before .before .before .fragment-claims .ensures .1)
+loop-again c =
+    let turn = c .before .before .before .before .before .before .loop in
+    let fragment-claims = c .before .before .before .fragment-claims in (
+      search needs,
+      all-more _ (turn .row) (fragment-claims .result) (turn .inv .1) (fragment-claims .ensures .0) (c .if1 .left),
+      fragment-claims .ensures .1,
+    )
 
 same-length-2 : tie.Need-same-length-2 Inv-loop μ-loop
 same-length-2 c = c .before .loop .inv .2 .sized ∙ sym (c .before .before .before .before .before .before .pre .sized)
 
 returns-2 : tie.Need-returns-2 Inv-loop μ-loop
-returns-2 c = rw (← (c .before .before .row-count .ensures)) (all-ended _ (c .before .loop .row) _ (c .before .loop .inv .1) (c .before .loop .inv .0) (c .loop-test .left))
+returns-2 c =
+    let row-count = c .before .before .row-count in
+    let turn = c .before .loop in
+    rw (← (row-count .ensures)) (all-ended _ (turn .row) _ (turn .inv .1) (turn .inv .0) (c .loop-test .left))
 
 pub fragments-claim-spec : {M : Type 1} → statement M
 fragments-claim-spec =

@@ -13,10 +13,17 @@ returns : tie.Need-returns
 returns c = rw (falsified (c .before .before .selections-claim .result) _ (c .before .before .selections-claim .ensures .0) (c .if1 .taken))
 
 fragments-claim-requires : tie.Need-fragments-claim-requires
-fragments-claim-requires c κs = fragments-first _ _ _ (c .before .before .before .selections-claim .ensures .1 (verified (c .before .before .before .selections-claim .result) _ refl (c .before .if1 .left)))
+fragments-claim-requires c κs =
+    let selections-claim = c .before .before .before .selections-claim in
+    let branch = c .before .if1 in
+    fragments-first _ _ _ (selections-claim .ensures .1 (verified (selections-claim .result) _ refl (branch .left)))
 
 returns-2 : tie.Need-returns-2
-returns-2 c = rw (verified (c .before .before .before .before .before .selections-claim .result) _ (c .before .before .before .before .before .selections-claim .ensures .0) (c .before .before .before .if1 .left)) (c .before .fragments-claim .ensures)
+returns-2 c =
+    let selections-claim = c .before .before .before .before .before .selections-claim in
+    let branch = c .before .before .before .if1 in
+    let fragments-claim = c .before .fragments-claim in
+    rw (verified (selections-claim .result) _ (selections-claim .ensures .0) (branch .left)) (fragments-claim .ensures)
 
 pub owners-differ-spec : {M : Type 1} → statement M
 owners-differ-spec =

@@ -12,7 +12,12 @@ returns c =
     (rw e, selection-absent _ _ _ (c .before .before .before .before .before .pre) e)
 
 returns-2 : tie.Need-returns-2
-returns-2 c = (c .selection-owns-alone .ensures, selection-past _ _ _ (c .before .before .before .before .before .before .before .before .pre) _ (sym (c .before .before .before .before .before .owned-set .ensures) ∙ c .before .before .before .owned .given .1) (c .before .if1 .taken))
+returns-2 c =
+    let asked = c .before .before .before .before .before .before .before .before .pre in
+    let owned-set = c .before .before .before .before .before .owned-set in
+    let owned = c .before .before .before .owned in
+    let branch = c .before .if1 in
+    (c .selection-owns-alone .ensures, selection-past _ _ _ asked _ (sym (owned-set .ensures) ∙ owned .given .1) (branch .taken))
 
 slice-read-mark : tie.Need-slice-read-mark
 slice-read-mark c = omega (arith, c .before .before .before .before .before .before .before .before .pre .sized)
@@ -22,8 +27,12 @@ slice-write-marks c = omega (arith, c .before .before .before .before .before .b
 
 returns-3 : tie.Need-returns-3
 returns-3 c =
-    let e = sym (c .before .before .before .before .before .owned-set .ensures) ∙ c .before .before .before .owned .given .1 in
-    (selection-told _ _ _ (c .before .before .before .before .before .before .before .before .pre) _ e (c .before .if1 .left), selection-marked _ _ _ (c .before .before .before .before .before .before .before .before .pre) _ e (c .before .if1 .left))
+    let owned-set = c .before .before .before .before .before .owned-set in
+    let owned = c .before .before .before .owned in
+    let asked = c .before .before .before .before .before .before .before .before .pre in
+    let branch = c .before .if1 in
+    let e = sym (owned-set .ensures) ∙ owned .given .1 in
+    (selection-told _ _ _ asked _ e (branch .left), selection-marked _ _ _ asked _ e (branch .left))
 
 pub selection-claims-spec : {M : Type 1} → statement M
 selection-claims-spec =

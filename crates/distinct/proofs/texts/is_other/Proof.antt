@@ -6,7 +6,9 @@ use Rattle.distinct.proofs.texts.is_other.Statement.{statement}
 use Rattle.distinct.proofs.texts.is_other.Tie as tie
 
 returns : tie.Need-returns
-returns c = hashed-other _ _ _ _ _ _ _ _ (c .before .before .before .before .before .before .pre .1) (omega arith) (omega arith) (c .if1 .taken)
+returns c =
+    let asked = c .before .before .before .before .before .before .pre in
+    hashed-other _ _ _ _ _ _ _ _ (asked .1) (omega arith) (omega arith) (c .if1 .taken)
 
 returns-2 : tie.Need-returns-2
 returns-2 c = rw (c .are-same .ensures, c .before .text-at2 .ensures, c .before .before .text-at .ensures)

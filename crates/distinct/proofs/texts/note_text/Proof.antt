@@ -21,31 +21,50 @@ slice-write-hashes : tie.Need-slice-write-hashes
 slice-write-hashes c = omega (arith, c .before .before .before .before .before .before .before .before .before .pre .1 .hashes-sized)
 
 cast-after-last-same : tie.Need-cast-after-last-same
-cast-after-last-same c = omega (arith, c .before .before .before .slice-known5 .given (c .before .before .before .before .hash-at .result % 2048))
+cast-after-last-same c =
+    let slice-known5 = c .before .before .before .slice-known5 in
+    let hash-at = c .before .before .before .before .hash-at in
+    omega (arith, slice-known5 .given (hash-at .result % 2048))
 
 after-last-same-requires : tie.Need-after-last-same-requires
-after-last-same-requires c κs = (
-  (search needs, search needs, search needs, simp length-set (omega (arith, c .before .before .before .before .before .before .before .before .before .before .before .pre .1 .hashes-sized)), search needs, since-low _ _ _ (c .before .before .before .before .before .before .before .before .before .before .before .pre .1 .told)),
-  (
-    kept-hashed _ _ _ _ _ _ _ _ _ (c .before .before .before .before .before .before .before .before .before .before .before .pre .1) _ (c .before .before .before .before .hash-at .ensures) (omega arith),
-    (
-      c .before .before .before .before .before .before .before .before .before .before .before .pre .1 .linked,
-      kept-cursor _ _ _ _ _ _ _ _ _ (c .before .before .before .before .before .before .before .before .before .before .before .pre .1) _ (c .before .before .before .before .hash-at .ensures),
-    ),
-  ),
-)
+after-last-same-requires c κs =
+    let asked = c .before .before .before .before .before .before .before .before .before .before .before .pre in
+    let hash-at = c .before .before .before .before .hash-at in (
+      (
+        search needs,
+        search needs,
+        search needs,
+        simp length-set (omega (arith, asked .1 .hashes-sized)),
+        search needs,
+        since-low _ _ _ (asked .1 .told),
+      ),
+      (
+        kept-hashed _ _ _ _ _ _ _ _ _ (asked .1) _ (hash-at .ensures) (omega arith),
+        (
+          asked .1 .linked,
+          kept-cursor _ _ _ _ _ _ _ _ _ (asked .1) _ (hash-at .ensures),
+        ),
+      ),
+    )
 
 slice-write-heads : tie.Need-slice-write-heads
-slice-write-heads c = omega (arith, c .before .before .before .before .before .before .before .before .before .before .before .before .pre .1 .headed .sized)
+slice-write-heads c =
+    let asked = c .before .before .before .before .before .before .before .before .before .before .before .before .pre in
+    omega (arith, asked .1 .headed .sized)
 
 cast-since : tie.Need-cast-since
 cast-since c = omega (arith, c .after-last-same .ensures .high)
 
 slice-write-since : tie.Need-slice-write-since
-slice-write-since c = omega (arith, c .before .before .before .before .before .before .before .before .before .before .before .before .pre .1 .since-sized)
+slice-write-since c =
+    let asked = c .before .before .before .before .before .before .before .before .before .before .before .before .pre in
+    omega (arith, asked .1 .since-sized)
 
 returns : tie.Need-returns
-returns c = kept-one _ _ _ _ _ _ _ _ _ (c .before .before .before .before .before .before .before .before .before .before .before .before .pre .1) _ (c .before .before .before .before .before .hash-at .ensures) (c .after-last-same .result) (omega arith) (c .after-last-same .ensures)
+returns c =
+    let asked = c .before .before .before .before .before .before .before .before .before .before .before .before .pre in
+    let hash-at = c .before .before .before .before .before .hash-at in
+    kept-one _ _ _ _ _ _ _ _ _ (asked .1) _ (hash-at .ensures) (c .after-last-same .result) (omega arith) (c .after-last-same .ensures)
 
 pub note-text-spec : {M : Type 1} → statement M
 note-text-spec =
