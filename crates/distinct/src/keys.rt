@@ -11,6 +11,9 @@ ghost use Rattle.rules.specs.Json.{objectRows, otherKey, nodeKeysDiffer};
 ghost use Rattle.distinct.specs.Differ.{Since};
 ghost use Rattle.distinct.specs.Plain.{isPlain};
 use crate::texts::note_texts;
+use rows::columns::NODE_KIND;
+use rows::columns::NODE_ONE;
+use rows::columns::NODE_TWO;
 use rows::json::NODE_WIDTH;
 use rows::layout::Range;
 use rows::layout::cell;
@@ -25,12 +28,12 @@ fn object_rows_at(nodes: &[u32], row: u32) -> Range
     ensures { λ r. ⌜ r ≡ objectRows (nodeAt (now (nodes .entry)) row) ⌝ }
 {
     let at = row as usize;
-    if cell(nodes, NODE_WIDTH, at, 0) != 8 {
+    if cell(nodes, NODE_WIDTH, at, NODE_KIND) != 8 {
         return Range { first: 0, count: 0 };
     }
     Range {
-        first: cell(nodes, NODE_WIDTH, at, 1),
-        count: cell(nodes, NODE_WIDTH, at, 2),
+        first: cell(nodes, NODE_WIDTH, at, NODE_ONE),
+        count: cell(nodes, NODE_WIDTH, at, NODE_TWO),
     }
 }
 

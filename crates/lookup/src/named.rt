@@ -10,6 +10,12 @@ use crate::find::find_in_table;
 use crate::find::find_word;
 use crate::find::has_word;
 use rows::answers::ANSWER_WIDTH;
+use rows::columns::ANSWER_NAME;
+use rows::columns::FIELD_NAME;
+use rows::columns::FRAGMENT_NAME;
+use rows::columns::MEMBER_NAME;
+use rows::columns::TYPE_NAME;
+use rows::columns::VARIABLE_NAME;
 use rows::document::FRAGMENT_WIDTH;
 use rows::json::VARIABLE_WIDTH;
 use rows::layout::Optional;
@@ -26,21 +32,21 @@ use rows::strings::is_same;
 pub fn type_named(types: &[u32], name: u32) -> Optional
     ensures { λ r. ⌜ r ≡ rowOf (typeNamed (now (types .entry)) name) ⌝ }
 {
-    find_in_table(types, TYPE_WIDTH, 0, name)
+    find_in_table(types, TYPE_WIDTH, TYPE_NAME, name)
 }
 
 // The fragment of this name.
 pub fn fragment_named(fragments: &[u32], name: u32) -> Optional
     ensures { λ r. ⌜ r ≡ rowOf (fragmentNamed (now (fragments .entry)) name) ⌝ }
 {
-    find_in_table(fragments, FRAGMENT_WIDTH, 0, name)
+    find_in_table(fragments, FRAGMENT_WIDTH, FRAGMENT_NAME, name)
 }
 
 // The row of the value of the variable of this name.
 pub fn variable_named(variables: &[u32], name: u32) -> Optional
     ensures { λ r. ⌜ r ≡ rowOf (variableNamed (now (variables .entry)) name) ⌝ }
 {
-    find_in_table(variables, VARIABLE_WIDTH, 0, name)
+    find_in_table(variables, VARIABLE_WIDTH, VARIABLE_NAME, name)
 }
 
 // The field of this name in a type.
@@ -50,7 +56,7 @@ pub fn field_named(types: &[u32], fields: &[u32], ty: u32, name: u32) -> Optiona
 {
     let def = type_at(types, ty);
     let rows = def.fields;
-    find_word(fields, FIELD_WIDTH, 0, rows, name)
+    find_word(fields, FIELD_WIDTH, FIELD_NAME, rows, name)
 }
 
 // Whether the name is one of the type's values, members or interfaces.
@@ -60,7 +66,7 @@ pub fn lists_name(types: &[u32], members: &[u32], ty: u32, name: u32) -> bool
 {
     let def = type_at(types, ty);
     let rows = def.members;
-    has_word(members, MEMBER_WIDTH, 0, rows, name)
+    has_word(members, MEMBER_WIDTH, MEMBER_NAME, rows, name)
 }
 
 // Whether a string is the name of one of these members.
@@ -103,5 +109,5 @@ pub fn field_answer(answers: &[u32], rows: Range, name: u32) -> Optional
     requires { ⌜ rows .first + rows .count ≤ mostRows ⌝ }
     ensures { λ r. ⌜ r ≡ rowOf (fieldAnswer (now (answers .entry)) rows name) ⌝ }
 {
-    find_word(answers, ANSWER_WIDTH, 1, rows, name)
+    find_word(answers, ANSWER_WIDTH, ANSWER_NAME, rows, name)
 }

@@ -1,6 +1,11 @@
 // The answers of the resolvers.
 ghost use mathlib.Core.Path.{_≡_};
 ghost use Rattle.rows.specs.Answers.{answerOf, answerAt, answerName};
+use crate::columns::ANSWER_KIND;
+use crate::columns::ANSWER_NAME;
+use crate::columns::ANSWER_ONE;
+use crate::columns::ANSWER_THREE;
+use crate::columns::ANSWER_TWO;
 use crate::layout::Range;
 use crate::layout::cell;
 
@@ -37,10 +42,10 @@ pub fn answer_at(answers: &[u32], row: u32) -> Answer
     ensures { λ r. ⌜ r ≡ answerAt (now (answers .entry)) row ⌝ }
 {
     let at = row as usize;
-    let kind = cell(answers, ANSWER_WIDTH, at, 0);
-    let a = cell(answers, ANSWER_WIDTH, at, 2);
-    let b = cell(answers, ANSWER_WIDTH, at, 3);
-    let c = cell(answers, ANSWER_WIDTH, at, 4);
+    let kind = cell(answers, ANSWER_WIDTH, at, ANSWER_KIND);
+    let a = cell(answers, ANSWER_WIDTH, at, ANSWER_ONE);
+    let b = cell(answers, ANSWER_WIDTH, at, ANSWER_TWO);
+    let c = cell(answers, ANSWER_WIDTH, at, ANSWER_THREE);
     answer_of(kind, a, b, c)
 }
 
@@ -48,5 +53,5 @@ pub fn answer_at(answers: &[u32], row: u32) -> Answer
 pub fn answer_name(answers: &[u32], row: u32) -> u32
     ensures { λ r. ⌜ r ≡ answerName (now (answers .entry)) row ⌝ }
 {
-    cell(answers, ANSWER_WIDTH, row as usize, 1)
+    cell(answers, ANSWER_WIDTH, row as usize, ANSWER_NAME)
 }

@@ -1,6 +1,23 @@
 // The operation's tables: sets of selections, arguments given, fragments.
 ghost use mathlib.Core.Path.{_≡_};
 ghost use Rattle.rows.specs.Document.{setAt, conditionOf, fieldSelection, selectionOf, selectionAt, givenAt, fragmentAt, spreadSelection, inlineSelection};
+use crate::columns::FRAGMENT_CONDITION;
+use crate::columns::FRAGMENT_NAME;
+use crate::columns::FRAGMENT_SET;
+use crate::columns::GIVEN_LITERAL;
+use crate::columns::GIVEN_NAME;
+use crate::columns::SELECTION_GIVEN;
+use crate::columns::SELECTION_GIVEN_COUNT;
+use crate::columns::SELECTION_INCLUDE;
+use crate::columns::SELECTION_KEY;
+use crate::columns::SELECTION_KIND;
+use crate::columns::SELECTION_NAME;
+use crate::columns::SELECTION_PLACE;
+use crate::columns::SELECTION_SET;
+use crate::columns::SELECTION_SKIP;
+use crate::columns::SELECTION_TYPE;
+use crate::columns::SET_SELECTION_COUNT;
+use crate::columns::SET_SELECTIONS;
 use crate::layout::Optional;
 use crate::layout::Range;
 use crate::layout::cell;
@@ -62,8 +79,8 @@ pub fn set_at(sets: &[u32], row: u32) -> Range
 {
     let at = row as usize;
     Range {
-        first: cell(sets, SET_WIDTH, at, 0),
-        count: cell(sets, SET_WIDTH, at, 1),
+        first: cell(sets, SET_WIDTH, at, SET_SELECTIONS),
+        count: cell(sets, SET_WIDTH, at, SET_SELECTION_COUNT),
     }
 }
 
@@ -87,14 +104,14 @@ fn field_selection(selections: &[u32], row: u32) -> FieldSelection
 {
     let at = row as usize;
     FieldSelection {
-        name: cell(selections, SELECTION_WIDTH, at, 4),
-        key: cell(selections, SELECTION_WIDTH, at, 5),
+        name: cell(selections, SELECTION_WIDTH, at, SELECTION_NAME),
+        key: cell(selections, SELECTION_WIDTH, at, SELECTION_KEY),
         given: Range {
-            first: cell(selections, SELECTION_WIDTH, at, 6),
-            count: cell(selections, SELECTION_WIDTH, at, 7),
+            first: cell(selections, SELECTION_WIDTH, at, SELECTION_GIVEN),
+            count: cell(selections, SELECTION_WIDTH, at, SELECTION_GIVEN_COUNT),
         },
-        set: cell(selections, SELECTION_WIDTH, at, 8),
-        ty: cell(selections, SELECTION_WIDTH, at, 9),
+        set: cell(selections, SELECTION_WIDTH, at, SELECTION_SET),
+        ty: cell(selections, SELECTION_WIDTH, at, SELECTION_TYPE),
     }
 }
 
@@ -102,7 +119,7 @@ fn spread_selection(selections: &[u32], row: u32) -> Selected
     ensures { λ r. ⌜ r ≡ spreadSelection (now (selections .entry)) row ⌝ }
 {
     Selected::Spread {
-        name: cell(selections, SELECTION_WIDTH, row as usize, 4),
+        name: cell(selections, SELECTION_WIDTH, row as usize, SELECTION_NAME),
     }
 }
 
@@ -110,10 +127,10 @@ fn inline_selection(selections: &[u32], row: u32) -> Selected
     ensures { λ r. ⌜ r ≡ inlineSelection (now (selections .entry)) row ⌝ }
 {
     let at = row as usize;
-    let condition = optional_row(cell(selections, SELECTION_WIDTH, at, 4));
+    let condition = optional_row(cell(selections, SELECTION_WIDTH, at, SELECTION_NAME));
     Selected::Inline {
         condition,
-        set: cell(selections, SELECTION_WIDTH, at, 8),
+        set: cell(selections, SELECTION_WIDTH, at, SELECTION_SET),
     }
 }
 
@@ -121,7 +138,7 @@ fn inline_selection(selections: &[u32], row: u32) -> Selected
 pub fn what_is_selected(selections: &[u32], row: u32) -> Selected
     ensures { λ r. ⌜ r ≡ selectionOf (now (selections .entry)) row ⌝ }
 {
-    let kind = cell(selections, SELECTION_WIDTH, row as usize, 0);
+    let kind = cell(selections, SELECTION_WIDTH, row as usize, SELECTION_KIND);
     match kind {
         0 => Selected::Field(field_selection(selections, row)),
         1 => spread_selection(selections, row),
@@ -134,9 +151,9 @@ pub fn selection_at(selections: &[u32], row: u32) -> Selection
     ensures { λ r. ⌜ r ≡ selectionAt (now (selections .entry)) row ⌝ }
 {
     let at = row as usize;
-    let skip = condition_of(cell(selections, SELECTION_WIDTH, at, 1));
-    let include = condition_of(cell(selections, SELECTION_WIDTH, at, 2));
-    let place = cell(selections, SELECTION_WIDTH, at, 3);
+    let skip = condition_of(cell(selections, SELECTION_WIDTH, at, SELECTION_SKIP));
+    let include = condition_of(cell(selections, SELECTION_WIDTH, at, SELECTION_INCLUDE));
+    let place = cell(selections, SELECTION_WIDTH, at, SELECTION_PLACE);
     let what = what_is_selected(selections, row);
     Selection {
         what,
@@ -151,8 +168,8 @@ pub fn given_at(given: &[u32], row: u32) -> Given
 {
     let at = row as usize;
     Given {
-        name: cell(given, GIVEN_WIDTH, at, 0),
-        literal: cell(given, GIVEN_WIDTH, at, 1),
+        name: cell(given, GIVEN_WIDTH, at, GIVEN_NAME),
+        literal: cell(given, GIVEN_WIDTH, at, GIVEN_LITERAL),
     }
 }
 
@@ -161,8 +178,8 @@ pub fn fragment_at(fragments: &[u32], row: u32) -> Fragment
 {
     let at = row as usize;
     Fragment {
-        name: cell(fragments, FRAGMENT_WIDTH, at, 0),
-        condition: cell(fragments, FRAGMENT_WIDTH, at, 1),
-        set: cell(fragments, FRAGMENT_WIDTH, at, 2),
+        name: cell(fragments, FRAGMENT_WIDTH, at, FRAGMENT_NAME),
+        condition: cell(fragments, FRAGMENT_WIDTH, at, FRAGMENT_CONDITION),
+        set: cell(fragments, FRAGMENT_WIDTH, at, FRAGMENT_SET),
     }
 }

@@ -2,6 +2,18 @@
 ghost use mathlib.Core.Path.{_≡_};
 ghost use Prim.Native.Nat.{_<_, _^_};
 ghost use Rattle.rows.specs.Json.{nodeOf, nodeAt, nodeKey, literalOf, literalAt, literalPlace, literalKey, variableAt};
+use crate::columns::LITERAL_KEY;
+use crate::columns::LITERAL_KIND;
+use crate::columns::LITERAL_ONE;
+use crate::columns::LITERAL_PLACE;
+use crate::columns::LITERAL_TWO;
+use crate::columns::NODE_KEY_LENGTH;
+use crate::columns::NODE_KEY_START;
+use crate::columns::NODE_KIND;
+use crate::columns::NODE_ONE;
+use crate::columns::NODE_TWO;
+use crate::columns::VARIABLE_NAME;
+use crate::columns::VARIABLE_NODE;
 use crate::layout::Range;
 use crate::layout::cell;
 use crate::strings::Text;
@@ -68,9 +80,9 @@ pub fn node_at(nodes: &[u32], row: u32) -> Node
     ensures { λ r. ⌜ r ≡ nodeAt (now (nodes .entry)) row ⌝ }
 {
     let at = row as usize;
-    let kind = cell(nodes, NODE_WIDTH, at, 0);
-    let a = cell(nodes, NODE_WIDTH, at, 1);
-    let b = cell(nodes, NODE_WIDTH, at, 2);
+    let kind = cell(nodes, NODE_WIDTH, at, NODE_KIND);
+    let a = cell(nodes, NODE_WIDTH, at, NODE_ONE);
+    let b = cell(nodes, NODE_WIDTH, at, NODE_TWO);
     node_of(kind, a, b)
 }
 
@@ -80,8 +92,8 @@ pub fn node_key(nodes: &[u32], row: usize) -> Text
     ensures { λ r. ⌜ r ≡ nodeKey (now (nodes .entry)) row ⌝ }
 {
     Text {
-        start: cell(nodes, NODE_WIDTH, row, 3),
-        len: cell(nodes, NODE_WIDTH, row, 4),
+        start: cell(nodes, NODE_WIDTH, row, NODE_KEY_START),
+        len: cell(nodes, NODE_WIDTH, row, NODE_KEY_LENGTH),
     }
 }
 
@@ -108,23 +120,23 @@ pub fn literal_at(literals: &[u32], row: u32) -> Literal
     ensures { λ r. ⌜ r ≡ literalAt (now (literals .entry)) row ⌝ }
 {
     let at = row as usize;
-    let kind = cell(literals, LITERAL_WIDTH, at, 0);
-    let a = cell(literals, LITERAL_WIDTH, at, 1);
-    let b = cell(literals, LITERAL_WIDTH, at, 2);
+    let kind = cell(literals, LITERAL_WIDTH, at, LITERAL_KIND);
+    let a = cell(literals, LITERAL_WIDTH, at, LITERAL_ONE);
+    let b = cell(literals, LITERAL_WIDTH, at, LITERAL_TWO);
     literal_of(kind, a, b)
 }
 
 pub fn literal_place(literals: &[u32], row: u32) -> u32
     ensures { λ r. ⌜ r ≡ literalPlace (now (literals .entry)) row ⌝ }
 {
-    cell(literals, LITERAL_WIDTH, row as usize, 3)
+    cell(literals, LITERAL_WIDTH, row as usize, LITERAL_PLACE)
 }
 
 // The key, a name, of a literal that is a child of an object.
 pub fn literal_key(literals: &[u32], row: u32) -> u32
     ensures { λ r. ⌜ r ≡ literalKey (now (literals .entry)) row ⌝ }
 {
-    cell(literals, LITERAL_WIDTH, row as usize, 4)
+    cell(literals, LITERAL_WIDTH, row as usize, LITERAL_KEY)
 }
 
 pub fn variable_at(variables: &[u32], row: u32) -> VariableValue
@@ -132,7 +144,7 @@ pub fn variable_at(variables: &[u32], row: u32) -> VariableValue
 {
     let at = row as usize;
     VariableValue {
-        name: cell(variables, VARIABLE_WIDTH, at, 0),
-        node: cell(variables, VARIABLE_WIDTH, at, 1),
+        name: cell(variables, VARIABLE_WIDTH, at, VARIABLE_NAME),
+        node: cell(variables, VARIABLE_WIDTH, at, VARIABLE_NODE),
     }
 }

@@ -2,6 +2,8 @@
 ghost use mathlib.Core.Path.{_≡_};
 ghost use Prim.Native.Nat.{_<_};
 ghost use Rattle.rows.specs.Names.{nameAt, nameText};
+use crate::columns::NAME_LENGTH;
+use crate::columns::NAME_START;
 use crate::layout::cell;
 use crate::strings::Text;
 use crate::strings::text_of;
@@ -13,8 +15,8 @@ pub fn name_at(names: &[u32], row: u32) -> Text
 {
     let at = row as usize;
     Text {
-        start: cell(names, NAME_WIDTH, at, 0),
-        len: cell(names, NAME_WIDTH, at, 1),
+        start: cell(names, NAME_WIDTH, at, NAME_START),
+        len: cell(names, NAME_WIDTH, at, NAME_LENGTH),
     }
 }
 

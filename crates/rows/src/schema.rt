@@ -1,6 +1,26 @@
 // The schema's tables: type references, types with their members, fields and arguments.
 ghost use mathlib.Core.Path.{_≡_};
 ghost use Rattle.rows.specs.Schema.{typeRefOf, typeRefAt, kindOf, typeAt, memberAt, fieldAt, argumentAt};
+use crate::columns::ARGUMENT_DEFAULT;
+use crate::columns::ARGUMENT_NAME;
+use crate::columns::ARGUMENT_PLACE;
+use crate::columns::ARGUMENT_TYPE;
+use crate::columns::FIELD_ARGUMENT_COUNT;
+use crate::columns::FIELD_ARGUMENTS;
+use crate::columns::FIELD_DEFAULT;
+use crate::columns::FIELD_NAME;
+use crate::columns::FIELD_PLACE;
+use crate::columns::FIELD_TYPE;
+use crate::columns::MEMBER_NAME;
+use crate::columns::TYPE_FIELD_COUNT;
+use crate::columns::TYPE_FIELDS;
+use crate::columns::TYPE_KIND;
+use crate::columns::TYPE_MEMBER_COUNT;
+use crate::columns::TYPE_MEMBERS;
+use crate::columns::TYPE_NAME;
+use crate::columns::TYPE_REF_KIND;
+use crate::columns::TYPE_REF_NON_NULL;
+use crate::columns::TYPE_REF_OF;
 use crate::layout::Optional;
 use crate::layout::Range;
 use crate::layout::cell;
@@ -76,9 +96,9 @@ pub fn type_ref_at(type_refs: &[u32], row: u32) -> TypeRef
     ensures { λ r. ⌜ r ≡ typeRefAt (now («type_refs» .entry)) row ⌝ }
 {
     let at = row as usize;
-    let kind = cell(type_refs, TYPE_REF_WIDTH, at, 0);
-    let non_null = cell(type_refs, TYPE_REF_WIDTH, at, 1);
-    let of = cell(type_refs, TYPE_REF_WIDTH, at, 2);
+    let kind = cell(type_refs, TYPE_REF_WIDTH, at, TYPE_REF_KIND);
+    let non_null = cell(type_refs, TYPE_REF_WIDTH, at, TYPE_REF_NON_NULL);
+    let of = cell(type_refs, TYPE_REF_WIDTH, at, TYPE_REF_OF);
     type_ref_of(kind, non_null, of)
 }
 
@@ -100,17 +120,17 @@ pub fn type_at(types: &[u32], row: u32) -> TypeDef
     ensures { λ r. ⌜ r ≡ typeAt (now (types .entry)) row ⌝ }
 {
     let at = row as usize;
-    let kind = type_kind(cell(types, TYPE_WIDTH, at, 1));
+    let kind = type_kind(cell(types, TYPE_WIDTH, at, TYPE_KIND));
     TypeDef {
-        name: cell(types, TYPE_WIDTH, at, 0),
+        name: cell(types, TYPE_WIDTH, at, TYPE_NAME),
         kind,
         fields: Range {
-            first: cell(types, TYPE_WIDTH, at, 2),
-            count: cell(types, TYPE_WIDTH, at, 3),
+            first: cell(types, TYPE_WIDTH, at, TYPE_FIELDS),
+            count: cell(types, TYPE_WIDTH, at, TYPE_FIELD_COUNT),
         },
         members: Range {
-            first: cell(types, TYPE_WIDTH, at, 4),
-            count: cell(types, TYPE_WIDTH, at, 5),
+            first: cell(types, TYPE_WIDTH, at, TYPE_MEMBERS),
+            count: cell(types, TYPE_WIDTH, at, TYPE_MEMBER_COUNT),
         },
     }
 }
@@ -119,22 +139,22 @@ pub fn type_at(types: &[u32], row: u32) -> TypeDef
 pub fn member_at(members: &[u32], row: u32) -> u32
     ensures { λ r. ⌜ r ≡ memberAt (now (members .entry)) row ⌝ }
 {
-    cell(members, MEMBER_WIDTH, row as usize, 0)
+    cell(members, MEMBER_WIDTH, row as usize, MEMBER_NAME)
 }
 
 pub fn field_at(fields: &[u32], row: u32) -> Field
     ensures { λ r. ⌜ r ≡ fieldAt (now (fields .entry)) row ⌝ }
 {
     let at = row as usize;
-    let default = optional_row(cell(fields, FIELD_WIDTH, at, 2));
+    let default = optional_row(cell(fields, FIELD_WIDTH, at, FIELD_DEFAULT));
     Field {
-        name: cell(fields, FIELD_WIDTH, at, 0),
-        ty: cell(fields, FIELD_WIDTH, at, 1),
+        name: cell(fields, FIELD_WIDTH, at, FIELD_NAME),
+        ty: cell(fields, FIELD_WIDTH, at, FIELD_TYPE),
         default,
-        place: cell(fields, FIELD_WIDTH, at, 3),
+        place: cell(fields, FIELD_WIDTH, at, FIELD_PLACE),
         arguments: Range {
-            first: cell(fields, FIELD_WIDTH, at, 4),
-            count: cell(fields, FIELD_WIDTH, at, 5),
+            first: cell(fields, FIELD_WIDTH, at, FIELD_ARGUMENTS),
+            count: cell(fields, FIELD_WIDTH, at, FIELD_ARGUMENT_COUNT),
         },
     }
 }
@@ -143,11 +163,11 @@ pub fn argument_at(arguments: &[u32], row: u32) -> Argument
     ensures { λ r. ⌜ r ≡ argumentAt (now (arguments .entry)) row ⌝ }
 {
     let at = row as usize;
-    let default = optional_row(cell(arguments, ARGUMENT_WIDTH, at, 2));
+    let default = optional_row(cell(arguments, ARGUMENT_WIDTH, at, ARGUMENT_DEFAULT));
     Argument {
-        name: cell(arguments, ARGUMENT_WIDTH, at, 0),
-        ty: cell(arguments, ARGUMENT_WIDTH, at, 1),
+        name: cell(arguments, ARGUMENT_WIDTH, at, ARGUMENT_NAME),
+        ty: cell(arguments, ARGUMENT_WIDTH, at, ARGUMENT_TYPE),
         default,
-        place: cell(arguments, ARGUMENT_WIDTH, at, 3),
+        place: cell(arguments, ARGUMENT_WIDTH, at, ARGUMENT_PLACE),
     }
 }

@@ -8,6 +8,11 @@ use rows::answers::ANSWER_WIDTH;
 use rows::answers::Answer;
 use rows::answers::answer_at;
 use rows::answers::answer_name;
+use rows::columns::ANSWER_KIND;
+use rows::columns::ANSWER_NAME;
+use rows::columns::ANSWER_ONE;
+use rows::columns::ANSWER_THREE;
+use rows::columns::ANSWER_TWO;
 use rows::layout::Range;
 use rows::layout::cell;
 
@@ -39,10 +44,10 @@ pub fn answer_row(names: u32, nodes: u32, count: u32, answers: &[u32], row: u32)
     ensures { λ r. ⌜ r ≡ answerRow names nodes count (now (answers .entry)) row ⌝ }
 {
     let at = row as usize;
-    let kind = cell(answers, ANSWER_WIDTH, at, 0);
-    let a = cell(answers, ANSWER_WIDTH, at, 2);
-    let b = cell(answers, ANSWER_WIDTH, at, 3);
-    let c = cell(answers, ANSWER_WIDTH, at, 4);
+    let kind = cell(answers, ANSWER_WIDTH, at, ANSWER_KIND);
+    let a = cell(answers, ANSWER_WIDTH, at, ANSWER_ONE);
+    let b = cell(answers, ANSWER_WIDTH, at, ANSWER_TWO);
+    let c = cell(answers, ANSWER_WIDTH, at, ANSWER_THREE);
     let lawful = answer_is_lawful(names, nodes, count, kind, a, b, c);
     (answer_name(answers, row) < names) & lawful
 }
@@ -51,7 +56,7 @@ fn answer_parts(answers: &[u32], answer: Answer) -> bool
     ensures { λ r. ⌜ r ≡ answerParts (now (answers .entry)) answer ⌝ }
 {
     match answer {
-        Answer::Object { ty: _, fields } => is_distinct(answers, ANSWER_WIDTH, 1, fields),
+        Answer::Object { ty: _, fields } => is_distinct(answers, ANSWER_WIDTH, ANSWER_NAME, fields),
         Answer::Skip => true,
         Answer::Error => true,
         Answer::Leaf(_) => true,

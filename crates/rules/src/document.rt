@@ -6,6 +6,18 @@ ghost use Rattle.rules.specs.Document.{setRow, conditionLawful, selected
 use crate::layout::is_distinct;
 use crate::layout::is_new;
 use crate::layout::is_within;
+use rows::columns::FRAGMENT_NAME;
+use rows::columns::FRAGMENT_SET;
+use rows::columns::GIVEN_NAME;
+use rows::columns::SELECTION_GIVEN;
+use rows::columns::SELECTION_GIVEN_COUNT;
+use rows::columns::SELECTION_INCLUDE;
+use rows::columns::SELECTION_KEY;
+use rows::columns::SELECTION_KIND;
+use rows::columns::SELECTION_NAME;
+use rows::columns::SELECTION_SET;
+use rows::columns::SELECTION_SKIP;
+use rows::columns::SELECTION_TYPE;
 use rows::document::FRAGMENT_WIDTH;
 use rows::document::GIVEN_WIDTH;
 use rows::document::SELECTION_WIDTH;
@@ -102,17 +114,17 @@ pub fn selection_row(
     ensures { λ r. ⌜ r ≡ selectionRow names «type_refs» sets given (now (selections .entry)) row ⌝ }
 {
     let at = row as usize;
-    let kind = cell(selections, SELECTION_WIDTH, at, 0);
-    let skip = cell(selections, SELECTION_WIDTH, at, 1);
-    let include = cell(selections, SELECTION_WIDTH, at, 2);
-    let name = cell(selections, SELECTION_WIDTH, at, 4);
-    let key = cell(selections, SELECTION_WIDTH, at, 5);
+    let kind = cell(selections, SELECTION_WIDTH, at, SELECTION_KIND);
+    let skip = cell(selections, SELECTION_WIDTH, at, SELECTION_SKIP);
+    let include = cell(selections, SELECTION_WIDTH, at, SELECTION_INCLUDE);
+    let name = cell(selections, SELECTION_WIDTH, at, SELECTION_NAME);
+    let key = cell(selections, SELECTION_WIDTH, at, SELECTION_KEY);
     let its_given = Range {
-        first: cell(selections, SELECTION_WIDTH, at, 6),
-        count: cell(selections, SELECTION_WIDTH, at, 7),
+        first: cell(selections, SELECTION_WIDTH, at, SELECTION_GIVEN),
+        count: cell(selections, SELECTION_WIDTH, at, SELECTION_GIVEN_COUNT),
     };
-    let set = cell(selections, SELECTION_WIDTH, at, 8);
-    let ty = cell(selections, SELECTION_WIDTH, at, 9);
+    let set = cell(selections, SELECTION_WIDTH, at, SELECTION_SET);
+    let ty = cell(selections, SELECTION_WIDTH, at, SELECTION_TYPE);
     selection_is_lawful(
         names,
         type_refs,
@@ -142,7 +154,7 @@ fn given_of(given: &[u32], what: Selected) -> bool
     match what {
         Selected::Field(field) => {
             let its_given = field.given;
-            is_distinct(given, GIVEN_WIDTH, 0, its_given)
+            is_distinct(given, GIVEN_WIDTH, GIVEN_NAME, its_given)
         }
         Selected::Spread { name: _ } => true,
         Selected::Inline {
@@ -169,7 +181,7 @@ pub fn fragment_row(names: u32, sets: u32, fragments: &[u32], row: u32) -> bool
 pub fn fragment_name_is_new(fragments: &[u32], row: u32) -> bool
     ensures { λ r. ⌜ r ≡ fragmentNameNew (now (fragments .entry)) row ⌝ }
 {
-    is_new(fragments, FRAGMENT_WIDTH, 0, 0, row)
+    is_new(fragments, FRAGMENT_WIDTH, FRAGMENT_NAME, 0, row)
 }
 
 fn owned_of(kind: u32, set: u32) -> Optional
@@ -194,8 +206,8 @@ pub fn owned_set(selections: &[u32], row: usize) -> Optional
     ensures { λ r. ⌜ r ≡ ownedSet (now (selections .entry)) row ⌝ }
 {
     owned_of(
-        cell(selections, SELECTION_WIDTH, row, 0),
-        cell(selections, SELECTION_WIDTH, row, 8),
+        cell(selections, SELECTION_WIDTH, row, SELECTION_KIND),
+        cell(selections, SELECTION_WIDTH, row, SELECTION_SET),
     )
 }
 
@@ -285,6 +297,6 @@ pub fn fragment_owns_alone(selections: &[u32], fragments: &[u32], row: u32) -> b
 {
     let fragment = fragment_at(fragments, row);
     let count = row_count(selections, SELECTION_WIDTH);
-    let new = is_new(fragments, FRAGMENT_WIDTH, 2, 0, row);
+    let new = is_new(fragments, FRAGMENT_WIDTH, FRAGMENT_SET, 0, row);
     is_alone(selections, count, Optional::Row(fragment.set)) & new
 }

@@ -9,6 +9,14 @@ use crate::layout::is_later;
 use crate::layout::is_new;
 use crate::strings::is_float_text;
 use crate::strings::is_string;
+use rows::columns::LITERAL_KEY;
+use rows::columns::LITERAL_KIND;
+use rows::columns::LITERAL_ONE;
+use rows::columns::LITERAL_TWO;
+use rows::columns::NODE_KIND;
+use rows::columns::NODE_ONE;
+use rows::columns::NODE_TWO;
+use rows::columns::VARIABLE_NAME;
 use rows::json::LITERAL_WIDTH;
 use rows::json::Literal;
 use rows::json::NODE_WIDTH;
@@ -62,9 +70,9 @@ pub fn node_row(pool: &[u8], whole: bool, count: u32, nodes: &[u32], row: u32) -
     ensures { λ r. ⌜ r ≡ nodeRow (now (pool .entry)) count (now (nodes .entry)) row ⌝ }
 {
     let at = row as usize;
-    let kind = cell(nodes, NODE_WIDTH, at, 0);
-    let a = cell(nodes, NODE_WIDTH, at, 1);
-    let b = cell(nodes, NODE_WIDTH, at, 2);
+    let kind = cell(nodes, NODE_WIDTH, at, NODE_KIND);
+    let a = cell(nodes, NODE_WIDTH, at, NODE_ONE);
+    let b = cell(nodes, NODE_WIDTH, at, NODE_TWO);
     node_is_lawful(pool, whole, count, row, kind, a, b)
 }
 
@@ -117,9 +125,9 @@ pub fn literal_row(
     ensures { λ r. ⌜ r ≡ literalRow (now (pool .entry)) names count (now (literals .entry)) row ⌝ }
 {
     let at = row as usize;
-    let kind = cell(literals, LITERAL_WIDTH, at, 0);
-    let a = cell(literals, LITERAL_WIDTH, at, 1);
-    let b = cell(literals, LITERAL_WIDTH, at, 2);
+    let kind = cell(literals, LITERAL_WIDTH, at, LITERAL_KIND);
+    let a = cell(literals, LITERAL_WIDTH, at, LITERAL_ONE);
+    let b = cell(literals, LITERAL_WIDTH, at, LITERAL_TWO);
     let lawful = literal_is_lawful(pool, whole, names, count, row, kind, a, b);
     (literal_key(literals, row) < names) & lawful
 }
@@ -128,7 +136,7 @@ fn literal_parts(literals: &[u32], literal: Literal) -> bool
     ensures { λ r. ⌜ r ≡ literalParts (now (literals .entry)) literal ⌝ }
 {
     match literal {
-        Literal::Object(rows) => is_distinct(literals, LITERAL_WIDTH, 4, rows),
+        Literal::Object(rows) => is_distinct(literals, LITERAL_WIDTH, LITERAL_KEY, rows),
         Literal::Null => true,
         Literal::False => true,
         Literal::True => true,
@@ -159,5 +167,5 @@ pub fn variable_row(names: u32, nodes: u32, variables: &[u32], row: u32) -> bool
 pub fn variable_name_is_new(variables: &[u32], row: u32) -> bool
     ensures { λ r. ⌜ r ≡ variableNameNew (now (variables .entry)) row ⌝ }
 {
-    is_new(variables, VARIABLE_WIDTH, 0, 0, row)
+    is_new(variables, VARIABLE_WIDTH, VARIABLE_NAME, 0, row)
 }

@@ -6,6 +6,18 @@ ghost use Rattle.rules.specs.Schema.{refLawful, typeRefRow, typeLawful, 
 use crate::layout::is_distinct;
 use crate::layout::is_new;
 use crate::layout::is_within;
+use rows::columns::ARGUMENT_DEFAULT;
+use rows::columns::ARGUMENT_NAME;
+use rows::columns::ARGUMENT_TYPE;
+use rows::columns::FIELD_ARGUMENT_COUNT;
+use rows::columns::FIELD_ARGUMENTS;
+use rows::columns::FIELD_DEFAULT;
+use rows::columns::FIELD_NAME;
+use rows::columns::FIELD_TYPE;
+use rows::columns::TYPE_NAME;
+use rows::columns::TYPE_REF_KIND;
+use rows::columns::TYPE_REF_NON_NULL;
+use rows::columns::TYPE_REF_OF;
 use rows::layout::Range;
 use rows::layout::cell;
 use rows::layout::row_count;
@@ -37,9 +49,9 @@ pub fn type_ref_row(names: u32, type_refs: &[u32], row: u32) -> bool
     ensures { λ r. ⌜ r ≡ typeRefRow names (now («type_refs» .entry)) row ⌝ }
 {
     let at = row as usize;
-    let kind = cell(type_refs, TYPE_REF_WIDTH, at, 0);
-    let non_null = cell(type_refs, TYPE_REF_WIDTH, at, 1);
-    let of = cell(type_refs, TYPE_REF_WIDTH, at, 2);
+    let kind = cell(type_refs, TYPE_REF_WIDTH, at, TYPE_REF_KIND);
+    let non_null = cell(type_refs, TYPE_REF_WIDTH, at, TYPE_REF_NON_NULL);
+    let of = cell(type_refs, TYPE_REF_WIDTH, at, TYPE_REF_OF);
     type_ref_is_lawful(names, row, kind, non_null, of)
 }
 
@@ -82,7 +94,7 @@ pub fn type_parts(types: &[u32], row: u32) -> bool
 pub fn type_name_is_new(types: &[u32], row: u32) -> bool
     ensures { λ r. ⌜ r ≡ typeNameNew (now (types .entry)) row ⌝ }
 {
-    is_new(types, TYPE_WIDTH, 0, 0, row)
+    is_new(types, TYPE_WIDTH, TYPE_NAME, 0, row)
 }
 
 pub fn member_row(names: u32, members: &[u32], row: u32) -> bool
@@ -126,12 +138,12 @@ pub fn field_row(
     ensures { λ r. ⌜ r ≡ fieldRow names «type_refs» arguments literals (now (fields .entry)) row ⌝ }
 {
     let at = row as usize;
-    let name = cell(fields, FIELD_WIDTH, at, 0);
-    let ty = cell(fields, FIELD_WIDTH, at, 1);
-    let default = cell(fields, FIELD_WIDTH, at, 2);
+    let name = cell(fields, FIELD_WIDTH, at, FIELD_NAME);
+    let ty = cell(fields, FIELD_WIDTH, at, FIELD_TYPE);
+    let default = cell(fields, FIELD_WIDTH, at, FIELD_DEFAULT);
     let its_arguments = Range {
-        first: cell(fields, FIELD_WIDTH, at, 4),
-        count: cell(fields, FIELD_WIDTH, at, 5),
+        first: cell(fields, FIELD_WIDTH, at, FIELD_ARGUMENTS),
+        count: cell(fields, FIELD_WIDTH, at, FIELD_ARGUMENT_COUNT),
     };
     field_is_lawful(
         names,
@@ -150,16 +162,16 @@ pub fn fields_differ(types: &[u32], fields: &[u32], row: u32) -> bool
 {
     let ty = type_at(types, row);
     let its_fields = ty.fields;
-    is_distinct(fields, FIELD_WIDTH, 0, its_fields)
+    is_distinct(fields, FIELD_WIDTH, FIELD_NAME, its_fields)
 }
 
 pub fn argument_row(names: u32, type_refs: u32, literals: u32, arguments: &[u32], row: u32) -> bool
     ensures { λ r. ⌜ r ≡ argumentRow names «type_refs» literals (now (arguments .entry)) row ⌝ }
 {
     let at = row as usize;
-    let name = cell(arguments, ARGUMENT_WIDTH, at, 0);
-    let ty = cell(arguments, ARGUMENT_WIDTH, at, 1);
-    let default = cell(arguments, ARGUMENT_WIDTH, at, 2);
+    let name = cell(arguments, ARGUMENT_WIDTH, at, ARGUMENT_NAME);
+    let ty = cell(arguments, ARGUMENT_WIDTH, at, ARGUMENT_TYPE);
+    let default = cell(arguments, ARGUMENT_WIDTH, at, ARGUMENT_DEFAULT);
     is_typed(names, type_refs, literals, name, ty, default)
 }
 
@@ -168,7 +180,7 @@ pub fn arguments_differ(fields: &[u32], arguments: &[u32], row: u32) -> bool
 {
     let field = field_at(fields, row);
     let its_arguments = field.arguments;
-    is_distinct(arguments, ARGUMENT_WIDTH, 0, its_arguments)
+    is_distinct(arguments, ARGUMENT_WIDTH, ARGUMENT_NAME, its_arguments)
 }
 
 fn is_object_kind(kind: TypeKind) -> bool

@@ -16,6 +16,18 @@ use distinct::columns::is_distinct_column;
 use distinct::columns::is_distinct_since;
 use distinct::columns::note_since;
 use distinct::owners::owners_differ;
+use rows::columns::FRAGMENT_NAME;
+use rows::columns::GIVEN_LITERAL;
+use rows::columns::GIVEN_NAME;
+use rows::columns::SELECTION_GIVEN;
+use rows::columns::SELECTION_GIVEN_COUNT;
+use rows::columns::SELECTION_INCLUDE;
+use rows::columns::SELECTION_KEY;
+use rows::columns::SELECTION_KIND;
+use rows::columns::SELECTION_NAME;
+use rows::columns::SELECTION_SET;
+use rows::columns::SELECTION_SKIP;
+use rows::columns::SELECTION_TYPE;
 use rows::document::FRAGMENT_WIDTH;
 use rows::document::GIVEN_WIDTH;
 use rows::document::SELECTION_WIDTH;
@@ -33,7 +45,8 @@ fn given_holds(names: u32, literals: u32, given: &[u32], row: u32) -> bool
     requires { ⌜ row < rowsOf (now given) givenWidth ⌝ }
     ensures { λ r. ⌜ r ≡ givenRow names literals (now (given .entry)) row ⌝ }
 {
-    (word(given, GIVEN_WIDTH, row, 0) < names) & (word(given, GIVEN_WIDTH, row, 1) < literals)
+    (word(given, GIVEN_WIDTH, row, GIVEN_NAME) < names)
+        & (word(given, GIVEN_WIDTH, row, GIVEN_LITERAL) < literals)
 }
 
 fn each_given_holds(names: u32, literals: u32, given: &[u32]) -> bool
@@ -68,7 +81,7 @@ fn given_differ_since(
     if kind != 0 {
         return true;
     }
-    is_distinct_since(given, GIVEN_WIDTH, 0, since, known, its_given)
+    is_distinct_since(given, GIVEN_WIDTH, GIVEN_NAME, since, known, its_given)
 }
 
 // `count` is how many arguments are given; the notes are on their names.
@@ -88,17 +101,17 @@ fn selection_holds(
     requires { ⌜ (known < length (now since)) × Since (other (now given) givenWidth 0) known (now since) ⌝ }
     ensures { λ r. ⌜ r ≡ selectionHolds names «type_refs» sets (now (selections .entry)) (now (given .entry)) row ⌝ }
 {
-    let kind = word(selections, SELECTION_WIDTH, row, 0);
-    let skip = word(selections, SELECTION_WIDTH, row, 1);
-    let include = word(selections, SELECTION_WIDTH, row, 2);
-    let name = word(selections, SELECTION_WIDTH, row, 4);
-    let key = word(selections, SELECTION_WIDTH, row, 5);
+    let kind = word(selections, SELECTION_WIDTH, row, SELECTION_KIND);
+    let skip = word(selections, SELECTION_WIDTH, row, SELECTION_SKIP);
+    let include = word(selections, SELECTION_WIDTH, row, SELECTION_INCLUDE);
+    let name = word(selections, SELECTION_WIDTH, row, SELECTION_NAME);
+    let key = word(selections, SELECTION_WIDTH, row, SELECTION_KEY);
     let its_given = Range {
-        first: word(selections, SELECTION_WIDTH, row, 6),
-        count: word(selections, SELECTION_WIDTH, row, 7),
+        first: word(selections, SELECTION_WIDTH, row, SELECTION_GIVEN),
+        count: word(selections, SELECTION_WIDTH, row, SELECTION_GIVEN_COUNT),
     };
-    let set = word(selections, SELECTION_WIDTH, row, 8);
-    let ty = word(selections, SELECTION_WIDTH, row, 9);
+    let set = word(selections, SELECTION_WIDTH, row, SELECTION_SET);
+    let ty = word(selections, SELECTION_WIDTH, row, SELECTION_TYPE);
     if !selection_is_lawful(
         names,
         type_refs,
@@ -156,7 +169,7 @@ fn selections_hold(names: u32, type_refs: u32, sets: u32, selections: &[u32], gi
     ensures { λ r. ⌜ r ≡ all (selectionHolds names «type_refs» sets (now (selections .entry)) (now (given .entry))) (rowsOf (now (selections .entry)) selectionWidth) ⌝ }
 {
     let mut since = [0u16; 4097];
-    let known = note_since(given, GIVEN_WIDTH, 0, &mut since);
+    let known = note_since(given, GIVEN_WIDTH, GIVEN_NAME, &mut since);
     each_selection_holds(names, type_refs, sets, selections, given, &since, known)
 }
 
@@ -265,7 +278,7 @@ pub(crate) fn document_is_lawful(
     if !each_fragment_holds(names, set_count, fragments) {
         return false;
     }
-    if !is_distinct_column(fragments, FRAGMENT_WIDTH, 0) {
+    if !is_distinct_column(fragments, FRAGMENT_WIDTH, FRAGMENT_NAME) {
         return false;
     }
     if !owners_differ(selections, fragments) {

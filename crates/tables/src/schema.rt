@@ -13,6 +13,19 @@ use distinct::columns::is_distinct_column;
 use distinct::columns::is_distinct_since;
 use distinct::columns::note_since;
 use distinct::names::all_names_differ;
+use rows::columns::ARGUMENT_DEFAULT;
+use rows::columns::ARGUMENT_NAME;
+use rows::columns::ARGUMENT_TYPE;
+use rows::columns::FIELD_ARGUMENT_COUNT;
+use rows::columns::FIELD_ARGUMENTS;
+use rows::columns::FIELD_DEFAULT;
+use rows::columns::FIELD_NAME;
+use rows::columns::FIELD_TYPE;
+use rows::columns::MEMBER_NAME;
+use rows::columns::TYPE_NAME;
+use rows::columns::TYPE_REF_KIND;
+use rows::columns::TYPE_REF_NON_NULL;
+use rows::columns::TYPE_REF_OF;
 use rows::layout::Range;
 use rows::layout::row_count;
 use rows::layout::word;
@@ -56,9 +69,9 @@ fn type_ref_holds(names: u32, type_refs: &[u32], row: u32) -> bool
     requires { ⌜ row < rowsOf (now «type_refs») typeRefWidth ⌝ }
     ensures { λ r. ⌜ r ≡ typeRefRow names (now («type_refs» .entry)) row ⌝ }
 {
-    let kind = word(type_refs, TYPE_REF_WIDTH, row, 0);
-    let non_null = word(type_refs, TYPE_REF_WIDTH, row, 1);
-    let of = word(type_refs, TYPE_REF_WIDTH, row, 2);
+    let kind = word(type_refs, TYPE_REF_WIDTH, row, TYPE_REF_KIND);
+    let non_null = word(type_refs, TYPE_REF_WIDTH, row, TYPE_REF_NON_NULL);
+    let of = word(type_refs, TYPE_REF_WIDTH, row, TYPE_REF_OF);
     type_ref_is_lawful(names, row, kind, non_null, of)
 }
 
@@ -80,7 +93,7 @@ fn member_holds(names: u32, members: &[u32], row: u32) -> bool
     requires { ⌜ row < rowsOf (now members) memberWidth ⌝ }
     ensures { λ r. ⌜ r ≡ memberRow names (now (members .entry)) row ⌝ }
 {
-    word(members, MEMBER_WIDTH, row, 0) < names
+    word(members, MEMBER_WIDTH, row, MEMBER_NAME) < names
 }
 
 fn each_member_holds(names: u32, members: &[u32]) -> bool
@@ -101,9 +114,9 @@ fn argument_holds(names: u32, type_refs: u32, literals: u32, arguments: &[u32], 
     requires { ⌜ row < rowsOf (now arguments) argumentWidth ⌝ }
     ensures { λ r. ⌜ r ≡ argumentRow names «type_refs» literals (now (arguments .entry)) row ⌝ }
 {
-    let name = word(arguments, ARGUMENT_WIDTH, row, 0);
-    let ty = word(arguments, ARGUMENT_WIDTH, row, 1);
-    let default = word(arguments, ARGUMENT_WIDTH, row, 2);
+    let name = word(arguments, ARGUMENT_WIDTH, row, ARGUMENT_NAME);
+    let ty = word(arguments, ARGUMENT_WIDTH, row, ARGUMENT_TYPE);
+    let default = word(arguments, ARGUMENT_WIDTH, row, ARGUMENT_DEFAULT);
     is_typed(names, type_refs, literals, name, ty, default)
 }
 
@@ -138,12 +151,12 @@ fn field_holds(
     requires { ⌜ (known < length (now since)) × Since (other (now arguments) argumentWidth 0) known (now since) ⌝ }
     ensures { λ r. ⌜ r ≡ fieldHolds names «type_refs» literals (now (fields .entry)) (now (arguments .entry)) row ⌝ }
 {
-    let name = word(fields, FIELD_WIDTH, row, 0);
-    let ty = word(fields, FIELD_WIDTH, row, 1);
-    let default = word(fields, FIELD_WIDTH, row, 2);
+    let name = word(fields, FIELD_WIDTH, row, FIELD_NAME);
+    let ty = word(fields, FIELD_WIDTH, row, FIELD_TYPE);
+    let default = word(fields, FIELD_WIDTH, row, FIELD_DEFAULT);
     let its_arguments = Range {
-        first: word(fields, FIELD_WIDTH, row, 4),
-        count: word(fields, FIELD_WIDTH, row, 5),
+        first: word(fields, FIELD_WIDTH, row, FIELD_ARGUMENTS),
+        count: word(fields, FIELD_WIDTH, row, FIELD_ARGUMENT_COUNT),
     };
     if !field_is_lawful(
         names,
@@ -157,7 +170,14 @@ fn field_holds(
     ) {
         return false;
     }
-    is_distinct_since(arguments, ARGUMENT_WIDTH, 0, since, known, its_arguments)
+    is_distinct_since(
+        arguments,
+        ARGUMENT_WIDTH,
+        ARGUMENT_NAME,
+        since,
+        known,
+        its_arguments,
+    )
 }
 
 fn each_field_holds(
@@ -198,7 +218,7 @@ fn fields_hold(names: u32, type_refs: u32, literals: u32, fields: &[u32], argume
     ensures { λ r. ⌜ r ≡ all (fieldHolds names «type_refs» literals (now (fields .entry)) (now (arguments .entry))) (rowsOf (now (fields .entry)) fieldWidth) ⌝ }
 {
     let mut since = [0u16; 1025];
-    let known = note_since(arguments, ARGUMENT_WIDTH, 0, &mut since);
+    let known = note_since(arguments, ARGUMENT_WIDTH, ARGUMENT_NAME, &mut since);
     each_field_holds(names, type_refs, literals, fields, arguments, &since, known)
 }
 
@@ -223,7 +243,7 @@ fn type_holds(
     }
     let ty = type_at(types, row);
     let its_fields = ty.fields;
-    is_distinct_since(fields, FIELD_WIDTH, 0, since, known, its_fields)
+    is_distinct_since(fields, FIELD_WIDTH, FIELD_NAME, since, known, its_fields)
 }
 
 fn each_type_holds(
@@ -262,7 +282,7 @@ fn types_hold(names: u32, members: u32, types: &[u32], fields: &[u32]) -> bool
     ensures { λ r. ⌜ r ≡ all (typeHolds names members (now (types .entry)) (now (fields .entry))) (rowsOf (now (types .entry)) typeWidth) ⌝ }
 {
     let mut since = [0u16; 1025];
-    let known = note_since(fields, FIELD_WIDTH, 0, &mut since);
+    let known = note_since(fields, FIELD_WIDTH, FIELD_NAME, &mut since);
     each_type_holds(names, members, types, fields, &since, known)
 }
 
@@ -304,7 +324,7 @@ pub(crate) fn schema_is_lawful(
     if !types_hold(name_count, row_count(members, MEMBER_WIDTH), types, fields) {
         return false;
     }
-    if !is_distinct_column(types, TYPE_WIDTH, 0) {
+    if !is_distinct_column(types, TYPE_WIDTH, TYPE_NAME) {
         return false;
     }
     root_is_object(types, root)

@@ -17,6 +17,21 @@ use distinct::columns::is_distinct_since;
 use distinct::columns::note_since;
 use distinct::keys::all_node_keys_differ;
 use rows::answers::ANSWER_WIDTH;
+use rows::columns::ANSWER_KIND;
+use rows::columns::ANSWER_NAME;
+use rows::columns::ANSWER_ONE;
+use rows::columns::ANSWER_THREE;
+use rows::columns::ANSWER_TWO;
+use rows::columns::LITERAL_KEY;
+use rows::columns::LITERAL_KIND;
+use rows::columns::LITERAL_ONE;
+use rows::columns::LITERAL_TWO;
+use rows::columns::NODE_KEY_LENGTH;
+use rows::columns::NODE_KEY_START;
+use rows::columns::NODE_KIND;
+use rows::columns::NODE_ONE;
+use rows::columns::NODE_TWO;
+use rows::columns::VARIABLE_NAME;
 use rows::json::LITERAL_WIDTH;
 use rows::json::NODE_WIDTH;
 use rows::json::VARIABLE_WIDTH;
@@ -38,15 +53,15 @@ fn node_holds(pool: &[u8], whole: bool, count: u32, nodes: &[u32], row: u32) -> 
     requires { ⌜ row < rowsOf (now nodes) nodeWidth ⌝ }
     ensures { λ r. ⌜ r ≡ nodeHolds (now (pool .entry)) count (now (nodes .entry)) row ⌝ }
 {
-    let kind = word(nodes, NODE_WIDTH, row, 0);
-    let a = word(nodes, NODE_WIDTH, row, 1);
-    let b = word(nodes, NODE_WIDTH, row, 2);
+    let kind = word(nodes, NODE_WIDTH, row, NODE_KIND);
+    let a = word(nodes, NODE_WIDTH, row, NODE_ONE);
+    let b = word(nodes, NODE_WIDTH, row, NODE_TWO);
     if !node_is_lawful(pool, whole, count, row, kind, a, b) {
         return false;
     }
     let key = Text {
-        start: word(nodes, NODE_WIDTH, row, 3),
-        len: word(nodes, NODE_WIDTH, row, 4),
+        start: word(nodes, NODE_WIDTH, row, NODE_KEY_START),
+        len: word(nodes, NODE_WIDTH, row, NODE_KEY_LENGTH),
     };
     is_string(pool, whole, key)
 }
@@ -82,7 +97,7 @@ fn literal_keys_differ_since(
         return true;
     }
     let rows = Range { first: a, count: b };
-    is_distinct_since(literals, LITERAL_WIDTH, 4, since, known, rows)
+    is_distinct_since(literals, LITERAL_WIDTH, LITERAL_KEY, since, known, rows)
 }
 
 // `count` is how many literals there are; the notes are on their keys.
@@ -101,10 +116,10 @@ fn literal_holds(
     requires { ⌜ (known < length (now since)) × Since (other (now literals) literalWidth 4) known (now since) ⌝ }
     ensures { λ r. ⌜ r ≡ literalHolds (now (pool .entry)) names count (now (literals .entry)) row ⌝ }
 {
-    let kind = word(literals, LITERAL_WIDTH, row, 0);
-    let a = word(literals, LITERAL_WIDTH, row, 1);
-    let b = word(literals, LITERAL_WIDTH, row, 2);
-    let key = word(literals, LITERAL_WIDTH, row, 4);
+    let kind = word(literals, LITERAL_WIDTH, row, LITERAL_KIND);
+    let a = word(literals, LITERAL_WIDTH, row, LITERAL_ONE);
+    let b = word(literals, LITERAL_WIDTH, row, LITERAL_TWO);
+    let key = word(literals, LITERAL_WIDTH, row, LITERAL_KEY);
     let lawful = (key < names) & literal_is_lawful(pool, whole, names, count, row, kind, a, b);
     if !lawful {
         return false;
@@ -140,7 +155,7 @@ fn literals_hold(pool: &[u8], whole: bool, names: u32, literals: &[u32]) -> bool
     ensures { λ r. ⌜ r ≡ all (literalHolds (now (pool .entry)) names (rowsOf (now (literals .entry)) literalWidth) (now (literals .entry))) (rowsOf (now (literals .entry)) literalWidth) ⌝ }
 {
     let mut since = [0u16; 1025];
-    let known = note_since(literals, LITERAL_WIDTH, 4, &mut since);
+    let known = note_since(literals, LITERAL_WIDTH, LITERAL_KEY, &mut since);
     each_literal_holds(pool, whole, names, literals, &since, known)
 }
 
@@ -163,11 +178,11 @@ fn answer_holds(names: u32, nodes: u32, count: u32, answers: &[u32], row: u32) -
     requires { ⌜ row < rowsOf (now answers) answerWidth ⌝ }
     ensures { λ r. ⌜ r ≡ answerRow names nodes count (now (answers .entry)) row ⌝ }
 {
-    let kind = word(answers, ANSWER_WIDTH, row, 0);
-    let name = word(answers, ANSWER_WIDTH, row, 1);
-    let a = word(answers, ANSWER_WIDTH, row, 2);
-    let b = word(answers, ANSWER_WIDTH, row, 3);
-    let c = word(answers, ANSWER_WIDTH, row, 4);
+    let kind = word(answers, ANSWER_WIDTH, row, ANSWER_KIND);
+    let name = word(answers, ANSWER_WIDTH, row, ANSWER_NAME);
+    let a = word(answers, ANSWER_WIDTH, row, ANSWER_ONE);
+    let b = word(answers, ANSWER_WIDTH, row, ANSWER_TWO);
+    let c = word(answers, ANSWER_WIDTH, row, ANSWER_THREE);
     (name < names) & answer_is_lawful(names, nodes, count, kind, a, b, c)
 }
 
@@ -176,7 +191,8 @@ fn is_plain(answers: &[u32], row: u32) -> bool
     requires { ⌜ row < rowsOf (now answers) answerWidth ⌝ }
     ensures { λ r. ⌜ r ≡ plainAnswer (now (answers .entry)) row ⌝ }
 {
-    (word(answers, ANSWER_WIDTH, row, 0) != 4) | (word(answers, ANSWER_WIDTH, row, 4) < 2)
+    (word(answers, ANSWER_WIDTH, row, ANSWER_KIND) != 4)
+        | (word(answers, ANSWER_WIDTH, row, ANSWER_THREE) < 2)
 }
 
 // What was seen of all answers: whether each holds by itself, and whether none has names to compare.
@@ -212,14 +228,14 @@ fn answer_names_differ_since(answers: &[u32], since: &[u16], known: usize, row: 
     requires { ⌜ (known < length (now since)) × Since (other (now answers) answerWidth 1) known (now since) ⌝ }
     ensures { λ r. ⌜ r ≡ answerNamesDiffer (now (answers .entry)) row ⌝ }
 {
-    if word(answers, ANSWER_WIDTH, row, 0) != 4 {
+    if word(answers, ANSWER_WIDTH, row, ANSWER_KIND) != 4 {
         return true;
     }
     let rows = Range {
-        first: word(answers, ANSWER_WIDTH, row, 3),
-        count: word(answers, ANSWER_WIDTH, row, 4),
+        first: word(answers, ANSWER_WIDTH, row, ANSWER_TWO),
+        count: word(answers, ANSWER_WIDTH, row, ANSWER_THREE),
     };
-    is_distinct_since(answers, ANSWER_WIDTH, 1, since, known, rows)
+    is_distinct_since(answers, ANSWER_WIDTH, ANSWER_NAME, since, known, rows)
 }
 
 fn each_answer_differs(answers: &[u32], since: &[u16], known: usize) -> bool
@@ -241,7 +257,7 @@ fn answer_names_differ(answers: &[u32]) -> bool
     ensures { λ r. ⌜ r ≡ all (answerNamesDiffer (now (answers .entry))) (rowsOf (now (answers .entry)) answerWidth) ⌝ }
 {
     let mut since = [0u16; 4097];
-    let known = note_since(answers, ANSWER_WIDTH, 1, &mut since);
+    let known = note_since(answers, ANSWER_WIDTH, ANSWER_NAME, &mut since);
     each_answer_differs(answers, &since, known)
 }
 
@@ -282,7 +298,7 @@ pub(crate) fn values_are_lawful(
     if !each_variable_holds(names, node_count, variables) {
         return false;
     }
-    if !is_distinct_column(variables, VARIABLE_WIDTH, 0) {
+    if !is_distinct_column(variables, VARIABLE_WIDTH, VARIABLE_NAME) {
         return false;
     }
     if !answers_hold(names, node_count, answers) {
