@@ -86,7 +86,7 @@ fn is_allowed(point: u32, size: usize) -> bool
     point <= 0x10_ffff
 }
 
-// The character of `size` bytes at `at`, as its first byte says.
+// The character at `at`, whose first byte says that it has `size` bytes.
 fn decode_sequence(s: &[u8], at: usize, size: usize) -> Decoded
     requires { ⌜ at < length (now s) ⌝ }
     requires { ⌜ Leads (getD (now s) at 0) size ⌝ }
