@@ -1,25 +1,15 @@
 // ladle check FILE..: whether the tables of a table file are lawful, and if not, why not.
-// ladle depth FILE..: how deep its operation nests lists.
+// ladle depth FILE..: how deep its operation goes.
 mod explain;
+mod faults;
+mod help;
 mod lists;
+mod mending;
 mod say;
+mod sentences;
 mod table_files;
 
 use table_files::Question;
-
-fn usage() {
-    say::words(
-        b"usage: ladle check FILE..\n\
-        \x20      ladle depth FILE..\n\
-        \n\
-        check prints 0 where the tables of a file are lawful, otherwise 1 and what is wrong:\n\
-        which table, which row, which rule. depth prints the depth check's code, with the\n\
-        depth behind 0 and behind 8 the place at which the operation is too deep.\n\
-        \n\
-        docs/TABLES.md describes the tables and the file; kits/segments.tables is one to\n\
-        start from.\n",
-    );
-}
 
 // Whether the first argument is this word.
 fn is_verb(word: &[u8; 5]) -> bool {
@@ -56,11 +46,11 @@ fn is_known_verb() -> bool {
 fn main() {
     let count = os::arg_count();
     if count < 3 {
-        usage();
+        help::print();
         return;
     }
     if !is_known_verb() {
-        usage();
+        help::print();
         return;
     }
     let mut number: usize = 2;
