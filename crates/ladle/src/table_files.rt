@@ -1,8 +1,9 @@
 // One table file: its answer, or why it is none.
 use crate::explain;
+use crate::faults::print_fault;
 use crate::lists::line;
 use crate::say;
-use table_file::fault;
+use table_file::fault::Fault;
 use table_file::layout;
 use table_file::layout::Pool;
 use table_file::layout::Sizes;
@@ -30,53 +31,31 @@ fn print_file_fault(why: u32) {
     ));
 }
 
-// Why a text is no table file, in the order of `table_file::fault`'s numbers.
-fn print_fault(why: u32) {
-    say::words(line(
-        b"\n\
-        a row before the first table, as [names]\n\
-        no such table\n\
-        nothing but a comment may follow a table's name\n\
-        a number has digits only, and an L behind a 64-bit one\n\
-        the number is too large\n\
-        no such word in this table\n\
-        no such name in [names] so far\n\
-        the string is not closed on its line\n\
-        an escape is one of \\\" \\\\ \\n \\t \\xHH\n\
-        a blank has to follow a string\n\
-        [pool] holds strings only\n\
-        more rows than ladle holds\n\
-        more bytes of strings than ladle holds\n\
-        [root] has one number",
-        why as usize,
-    ));
-}
-
 // The table check's code, and under it what is wrong.
-fn print_code(pool: &Pool, words: &Words, sizes: Sizes) {
+fn print_code(text: &[u8], pool: &mut Pool, words: &mut Words, sizes: Sizes) {
     let code = entries::code(pool, words, sizes);
     say::number(code as u64);
     say::words(b"\n");
     if code != LAWFUL {
-        explain::print_broken_rules(pool, words, sizes);
+        explain::print_broken_rules(text, pool, words, sizes);
     }
 }
 
 // The depth check's answer, and under it what is wrong where the tables are not lawful.
-fn print_depth(pool: &Pool, words: &Words, sizes: Sizes) {
+fn print_depth(text: &[u8], pool: &mut Pool, words: &mut Words, sizes: Sizes) {
     let answer = entries::depth(pool, words, sizes);
     let code = answer.code;
     print_depth_answer(answer);
     say::words(b"\n");
     if code == UNLAWFUL {
-        explain::print_broken_rules(pool, words, sizes);
+        explain::print_broken_rules(text, pool, words, sizes);
     }
 }
 
-fn print_answer(question: Question, pool: &Pool, words: &Words, sizes: Sizes) {
+fn print_answer(question: Question, text: &[u8], pool: &mut Pool, words: &mut Words, sizes: Sizes) {
     match question {
-        Question::Check => print_code(pool, words, sizes),
-        Question::Depth => print_depth(pool, words, sizes),
+        Question::Check => print_code(text, pool, words, sizes),
+        Question::Depth => print_depth(text, pool, words, sizes),
     }
 }
 
@@ -84,21 +63,24 @@ fn answer_text(question: Question, path: &[u8], is_one_of_several: bool, text: &
     let mut pool = layout::new_pool();
     let mut words = layout::new_words();
     let contents = table_file::read(text, &mut pool, &mut words);
-    if contents.fault != fault::FINE {
+    let why = contents.fault;
+    let Fault::Fine = why else {
         say::words(path);
         say::words(b":");
         say::number(contents.line as u64);
         say::words(b": ");
-        print_fault(contents.fault);
+        let from = contents.from;
+        let to = contents.to;
+        print_fault(why, &text[from..to]);
         say::words(b"\n");
         return;
-    }
+    };
     if is_one_of_several {
         say::words(path);
         say::words(b": ");
     }
     let sizes = contents.sizes;
-    print_answer(question, &pool, &words, sizes);
+    print_answer(question, text, &mut pool, &mut words, sizes);
 }
 
 pub(crate) fn answer(question: Question, path: &[u8], is_one_of_several: bool) {
