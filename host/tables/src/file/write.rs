@@ -1,6 +1,6 @@
-//! Writing a table file: numbers, and strings where they stand.
+//! Writing a table file: numbers, strings where they stand, and the reserved names by their word.
 
-use crate::layout::{limit, value_kind};
+use crate::layout::{limit, value_kind, width, RESERVED};
 use crate::rows::{Span, Tables};
 
 /// Which words of a row are a string: the columns of their first words.
@@ -22,37 +22,35 @@ fn string_columns(table: &str, row: &[u32]) -> &'static [usize] {
 /// pool is written as it is and strings by their two words.
 pub fn write(tables: &Tables) -> String {
     let quoted = strings_fit(tables);
-    let mut text = pool_text(tables, quoted);
+    let mut text = String::new();
+    if !quoted {
+        text += "[pool]\n";
+        push_lines(&mut text, &pool_lines(tables));
+    }
     for (name, width, words) in tables.word_tables() {
         text += &format!("[{name}]\n");
-        for row in words.chunks(width) {
-            text += &row_text(tables, name, row, quoted);
-            text.push('\n');
-        }
+        push_lines(&mut text, &row_lines(tables, name, width, words, quoted));
     }
     text + &format!("[root]\n{}\n", tables.root)
 }
 
-/// The same in fewer bytes: empty tables and a root of 0 are left out, equal rows that follow one
+/// The same in fewer bytes: empty tables and a root of 0 are left out, equal lines that follow one
 /// another are written once with their number.
 pub fn write_short(tables: &Tables) -> String {
     let quoted = strings_fit(tables);
-    let mut text = pool_text(tables, quoted);
+    let mut text = String::new();
+    if !quoted {
+        text += "[pool]\n";
+        push_folded(&mut text, &pool_lines(tables), |_| true);
+    }
     for (name, width, words) in tables.word_tables() {
         if words.is_empty() {
             continue;
         }
         text += &format!("[{name}]\n");
-        let rows = words.chunks(width).map(|row| row_text(tables, name, row, quoted));
-        let rows: Vec<String> = rows.collect();
+        let lines = row_lines(tables, name, width, words, quoted);
         // A row with a string stands alone: repeated, its bytes would be shared.
-        for equal in rows.chunk_by(|one, two| one == two && !one.contains('"')) {
-            match equal {
-                [row] => text += row,
-                _ => text += &format!("{} * {}", equal.len(), equal[0]),
-            }
-            text.push('\n');
-        }
+        push_folded(&mut text, &lines, |line| !line.contains('"'));
     }
     if tables.root != 0 {
         text += &format!("[root]\n{}\n", tables.root);
@@ -60,13 +58,51 @@ pub fn write_short(tables: &Tables) -> String {
     text
 }
 
-/// The pool, where strings are not written where they stand.
-fn pool_text(tables: &Tables, quoted: bool) -> String {
-    if quoted {
-        return String::new();
+fn push_lines(text: &mut String, lines: &[String]) {
+    for line in lines {
+        *text += line;
+        text.push('\n');
     }
-    let lines = tables.pool.chunks(64).map(|chunk| quote(chunk) + "\n");
-    lines.fold("[pool]\n".into(), |text, line| text + &line)
+}
+
+/// Equal lines that may be folded and follow one another stand once, with their number.
+fn push_folded(text: &mut String, lines: &[String], may_fold: impl Fn(&str) -> bool) {
+    for equal in lines.chunk_by(|one, two| one == two && may_fold(one)) {
+        match equal {
+            [line] => *text += line,
+            _ => *text += &format!("{} * {}", equal.len(), equal[0]),
+        }
+        text.push('\n');
+    }
+}
+
+/// The pool, where strings are not written where they stand.
+fn pool_lines(tables: &Tables) -> Vec<String> {
+    tables.pool.chunks(64).map(quote).collect()
+}
+
+/// The rows of a table, a line each; the reserved names are one.
+fn row_lines(
+    tables: &Tables,
+    table: &str,
+    width: usize,
+    words: &[u32],
+    quoted: bool,
+) -> Vec<String> {
+    let (mut lines, mut rest) = (Vec::new(), words);
+    if quoted && table == "names" && has_reserved(tables) {
+        lines.push("reserved".into());
+        rest = &words[RESERVED.len() * width..];
+    }
+    lines.extend(rest.chunks(width).map(|row| row_text(tables, table, row, quoted)));
+    lines
+}
+
+/// Whether the first names are the reserved ones. Every string has to lie in the pool.
+fn has_reserved(tables: &Tables) -> bool {
+    let rows = tables.names.chunks_exact(width::NAMES).take(RESERVED.len());
+    let names = rows.map(|row| tables.bytes(Span { start: row[0], length: row[1] }));
+    names.eq(RESERVED.iter().map(|name| name.as_bytes()))
 }
 
 /// Whether every string lies in the pool, and all of them, each by itself, in one of legal length.
