@@ -1,5 +1,6 @@
--- Tables as words in rows and columns; strings and names; then each table's rows and what they have to obey, in reading order.
+-- Tables as words in rows and columns; strings and names; then how a row of each table is read, in reading order.
 pub mod Layout
+pub mod Limits
 pub mod Rows
 pub mod Strings
 pub mod Ascii
@@ -8,6 +9,3 @@ pub mod Schema
 pub mod Document
 pub mod Json
 pub mod Answers
--- What two searches keep while they go on. No public contract cites them.
-pub mod Marks
-pub mod Keys

@@ -1,17 +1,10 @@
--- "Names, 12 to 512: 1 to 64 bytes, `[_A-Za-z][_0-9A-Za-z]*`, no two equal. Names 0 to 11 are `__typename`, `Int`, `Float`,
--- `String`, `Boolean`, `ID`, `__schema`, `__type`, `fields`, `interfaces`, `possibleTypes`, `inputFields`."
+-- The names, and the first twelve of them.
 use mathlib.Core.List.{List, [], _∷_}
-use mathlib.Core.Bool.{Bool, true, false, not, _&&_}
-use mathlib.Core.Option.{Option, none, some}
 use Prim.Native.Nat.{ℕ}
 use Prim.Native.String.{String}
-use lib.ListN.{getElem?}
-use lib.Dec.{leb}
-use Rattle.text.specs.Names.{isName}
-use Rattle.rows.specs.Ascii.{ascii}
 use Rattle.rows.specs.Layout.{nameWidth}
-use Rattle.rows.specs.Rows.{cell, all, isRow}
-use Rattle.rows.specs.Strings.{textOf, inPool, same}
+use Rattle.rows.specs.Rows.{cell}
+use Rattle.rows.specs.Strings.{textOf}
 use Rattle.rows.specs.declared.strings.Text.{Text}
 
 -- a row: start, length
@@ -22,35 +15,9 @@ nameAt names row = record { start = cell names nameWidth row 0; len = cell names
 abbrev pub nameText : List ℕ → List ℕ → ℕ → List ℕ
 nameText pool names row = textOf pool (nameAt names row)
 
-abbrev pub isNameRow : List ℕ → ℕ → Bool
-isNameRow names row = isRow names nameWidth row
-
--- "1 to 64 bytes, `[_A-Za-z][_0-9A-Za-z]*`"
-unfoldable pub nameSpelled : List ℕ → List ℕ → ℕ → Bool
-nameSpelled pool names row =
-    let name = nameAt names row in
-    inPool pool name && ((leb 1 (name .len) && leb (name .len) 64) && isName (textOf pool name))
-
--- "Names 0 to 11 are .."
+-- "Names 0 to 11 are `__typename`, `Int`, `Float`, `String`, `Boolean`, `ID`, `__schema`, `__type`, `fields`, `interfaces`,
+-- `possibleTypes`, `inputFields`."
 abbrev pub reserved : List String
 reserved =
     "__typename" ∷ "Int" ∷ "Float" ∷ "String" ∷ "Boolean" ∷ "ID"
     ∷ "__schema" ∷ "__type" ∷ "fields" ∷ "interfaces" ∷ "possibleTypes" ∷ "inputFields" ∷ []
-
-abbrev pub spelledAs : Option String → List ℕ → Bool
-spelledAs none name = true
-spelledAs (some s) name = same name (ascii s)
-
--- whether these bytes may stand at this row
-abbrev pub reservedAs : ℕ → List ℕ → Bool
-reservedAs row name = spelledAs (getElem? reserved row) name
-
-abbrev pub nameReserved : List ℕ → List ℕ → ℕ → Bool
-nameReserved pool names row = reservedAs row (nameText pool names row)
-
--- "no two equal": this one equals none before it
-abbrev pub otherName : List ℕ → List ℕ → ℕ → ℕ → Bool
-otherName pool names one two = not (same (nameText pool names one) (nameText pool names two))
-
-unfoldable pub nameNew : List ℕ → List ℕ → ℕ → Bool
-nameNew pool names row = all (otherName pool names row) row

@@ -1,13 +1,9 @@
 // The table of names.
 ghost use mathlib.Core.Path.{_≡_};
-ghost use Prim.Native.Nat.{_≤_, _<_};
-ghost use Rattle.rows.specs.Names.{nameAt, nameText, nameSpelled, reservedAs, nameReserved, otherName, nameNew, isNameRow};
-use crate::layout::both;
+ghost use Prim.Native.Nat.{_<_};
+ghost use Rattle.rows.specs.Names.{nameAt, nameText};
 use crate::layout::cell;
-use crate::layout::is_row;
 use crate::strings::Text;
-use crate::strings::is_in_pool;
-use crate::strings::is_same;
 use crate::strings::text_of;
 
 pub const NAME_WIDTH: usize = 2;
@@ -27,88 +23,4 @@ pub fn name_text<'a>(pool: &'a [u8], names: &[u32], row: u32) -> &'a [u8]
     ensures { λ r. ⌜ now r ≡ nameText (now (pool .entry)) (now (names .entry)) row ⌝ }
 {
     text_of(pool, name_at(names, row))
-}
-
-pub(crate) fn is_name_row(names: &[u32], row: u32) -> bool
-    ensures { λ r. ⌜ r ≡ isNameRow (now (names .entry)) row ⌝ }
-{
-    is_row(names, NAME_WIDTH, row)
-}
-
-pub fn name_is_spelled(pool: &[u8], names: &[u32], row: u32) -> bool
-    ensures { λ r. ⌜ r ≡ nameSpelled (now (pool .entry)) (now (names .entry)) row ⌝ }
-{
-    let name = name_at(names, row);
-    let len = name.len;
-    let sized = both(1 <= len, len <= 64);
-    both(
-        is_in_pool(pool, name),
-        both(sized, text::names::is_name(text_of(pool, name))),
-    )
-}
-
-fn is_reserved_for_types(row: u32, name: &[u8]) -> bool
-    requires { ⌜ row < 6 ⌝ }
-    ensures { λ r. ⌜ r ≡ reservedAs row (now (name .entry)) ⌝ }
-{
-    match row {
-        0 => is_same(name, b"__typename"),
-        1 => is_same(name, b"Int"),
-        2 => is_same(name, b"Float"),
-        3 => is_same(name, b"String"),
-        4 => is_same(name, b"Boolean"),
-        _ => is_same(name, b"ID"),
-    }
-}
-
-fn is_reserved_for_introspection(row: u32, name: &[u8]) -> bool
-    requires { ⌜ (6 ≤ row) × (row < 12) ⌝ }
-    ensures { λ r. ⌜ r ≡ reservedAs row (now (name .entry)) ⌝ }
-{
-    match row {
-        6 => is_same(name, b"__schema"),
-        7 => is_same(name, b"__type"),
-        8 => is_same(name, b"fields"),
-        9 => is_same(name, b"interfaces"),
-        10 => is_same(name, b"possibleTypes"),
-        _ => is_same(name, b"inputFields"),
-    }
-}
-
-// Whether these bytes may stand at this row: of the first twelve each has its own.
-fn is_reserved_as(row: u32, name: &[u8]) -> bool
-    ensures { λ r. ⌜ r ≡ reservedAs row (now (name .entry)) ⌝ }
-{
-    if row < 6 {
-        return is_reserved_for_types(row, name);
-    }
-    if row < 12 {
-        return is_reserved_for_introspection(row, name);
-    }
-    true
-}
-
-pub fn name_is_reserved(pool: &[u8], names: &[u32], row: u32) -> bool
-    ensures { λ r. ⌜ r ≡ nameReserved (now (pool .entry)) (now (names .entry)) row ⌝ }
-{
-    is_reserved_as(row, name_text(pool, names, row))
-}
-
-fn is_other_name(pool: &[u8], names: &[u32], one: u32, two: u32) -> bool
-    ensures { λ r. ⌜ r ≡ otherName (now (pool .entry)) (now (names .entry)) one two ⌝ }
-{
-    !is_same(name_text(pool, names, one), name_text(pool, names, two))
-}
-
-pub fn name_is_new(pool: &[u8], names: &[u32], row: u32) -> bool
-    ensures { λ r. ⌜ r ≡ nameNew (now (pool .entry)) (now (names .entry)) row ⌝ }
-{
-    let mut j: u32 = 0;
-    while j < row {
-        if !is_other_name(pool, names, row, j) {
-            return false;
-        }
-        j += 1;
-    }
-    true
 }

@@ -1,18 +1,10 @@
 // The schema's tables: type references, types with their members, fields and arguments.
 ghost use mathlib.Core.Path.{_≡_};
-ghost use Rattle.rows.specs.Schema.{typeRefOf, typeRefAt, refLawful, typeRefRow, kindOf, typeAt, typeLawful, typeRow, partsLawful, typeParts, typeNameNew, memberAt, memberRow, fieldAt, fieldLawful, fieldRow, fieldsDiffer, argumentAt, argumentLawful, argumentRow, argumentsDiffer, objectKind, rootType, typed};
-use crate::json::LITERAL_WIDTH;
+ghost use Rattle.rows.specs.Schema.{typeRefOf, typeRefAt, kindOf, typeAt, memberAt, fieldAt, argumentAt};
 use crate::layout::Optional;
 use crate::layout::Range;
-use crate::layout::both;
 use crate::layout::cell;
-use crate::layout::is_distinct;
-use crate::layout::is_new;
-use crate::layout::is_row;
-use crate::layout::is_row_or_none;
-use crate::layout::is_within;
 use crate::layout::optional_row;
-use crate::names::is_name_row;
 
 pub const TYPE_REF_WIDTH: usize = 3;
 
@@ -90,28 +82,6 @@ pub fn type_ref_at(type_refs: &[u32], row: u32) -> TypeRef
     type_ref_of(kind, non_null, of)
 }
 
-fn type_ref_is_lawful(names: &[u32], row: u32, ty: TypeRef) -> bool
-    ensures { λ r. ⌜ r ≡ refLawful (now (names .entry)) row ty ⌝ }
-{
-    match ty {
-        TypeRef::Named { name, nullable: _ } => is_name_row(names, name),
-        TypeRef::ListOf { inner, nullable: _ } => inner < row,
-        TypeRef::Unknown => false,
-    }
-}
-
-pub fn type_ref_row(names: &[u32], type_refs: &[u32], row: u32) -> bool
-    ensures { λ r. ⌜ r ≡ typeRefRow (now (names .entry)) (now («type_refs» .entry)) row ⌝ }
-{
-    type_ref_is_lawful(names, row, type_ref_at(type_refs, row))
-}
-
-pub(crate) fn is_type_ref(type_refs: &[u32], row: u32) -> bool
-    ensures { λ r. ⌜ r ≡ typed (now («type_refs» .entry)) row ⌝ }
-{
-    is_row(type_refs, TYPE_REF_WIDTH, row)
-}
-
 fn type_kind(kind: u32) -> TypeKind
     ensures { λ r. ⌜ r ≡ kindOf kind ⌝ }
 {
@@ -145,63 +115,11 @@ pub fn type_at(types: &[u32], row: u32) -> TypeDef
     }
 }
 
-fn type_is_lawful(names: &[u32], members: &[u32], fields: &[u32], ty: TypeDef) -> bool
-    ensures { λ r. ⌜ r ≡ typeLawful (now (names .entry)) (now (members .entry)) (now (fields .entry)) ty ⌝ }
-{
-    let its_fields = ty.fields;
-    let its_members = ty.members;
-    let ranged = both(
-        is_within(fields, FIELD_WIDTH, its_fields),
-        is_within(members, MEMBER_WIDTH, its_members),
-    );
-    both(is_name_row(names, ty.name), ranged)
-}
-
-pub fn type_row(names: &[u32], types: &[u32], members: &[u32], fields: &[u32], row: u32) -> bool
-    ensures { λ r. ⌜ r ≡ typeRow (now (names .entry)) (now (types .entry)) (now (members .entry)) (now (fields .entry)) row ⌝ }
-{
-    type_is_lawful(names, members, fields, type_at(types, row))
-}
-
-fn parts_are_lawful(kind: TypeKind, fields: u32, members: u32) -> bool
-    ensures { λ r. ⌜ r ≡ partsLawful kind fields members ⌝ }
-{
-    match kind {
-        TypeKind::Scalar => both(fields == 0, members == 0),
-        TypeKind::Enum => fields == 0,
-        TypeKind::Object => true,
-        TypeKind::Interface => true,
-        TypeKind::Union => fields == 0,
-        TypeKind::InputObject => members == 0,
-        TypeKind::Unknown => false,
-    }
-}
-
-pub fn type_parts(types: &[u32], row: u32) -> bool
-    ensures { λ r. ⌜ r ≡ typeParts (now (types .entry)) row ⌝ }
-{
-    let ty = type_at(types, row);
-    let kind = ty.kind;
-    parts_are_lawful(kind, ty.fields.count, ty.members.count)
-}
-
-pub fn type_name_is_new(types: &[u32], row: u32) -> bool
-    ensures { λ r. ⌜ r ≡ typeNameNew (now (types .entry)) row ⌝ }
-{
-    is_new(types, TYPE_WIDTH, 0, 0, row)
-}
-
 // The name of a member.
 pub fn member_at(members: &[u32], row: u32) -> u32
     ensures { λ r. ⌜ r ≡ memberAt (now (members .entry)) row ⌝ }
 {
     cell(members, MEMBER_WIDTH, row as usize, 0)
-}
-
-pub fn member_row(names: &[u32], members: &[u32], row: u32) -> bool
-    ensures { λ r. ⌜ r ≡ memberRow (now (names .entry)) (now (members .entry)) row ⌝ }
-{
-    is_name_row(names, member_at(members, row))
 }
 
 pub fn field_at(fields: &[u32], row: u32) -> Field
@@ -221,59 +139,6 @@ pub fn field_at(fields: &[u32], row: u32) -> Field
     }
 }
 
-// What a field and an argument have in common: a name, a type reference, and a literal for a default or none.
-fn is_typed(
-    names: &[u32],
-    type_refs: &[u32],
-    literals: &[u32],
-    name: u32,
-    ty: u32,
-    default: Optional,
-) -> bool
-    ensures { λ r. ⌜ r ≡ argumentLawful (now (names .entry)) (now («type_refs» .entry)) (now (literals .entry)) name ty default ⌝ }
-{
-    let named = both(is_name_row(names, name), is_type_ref(type_refs, ty));
-    both(named, is_row_or_none(literals, LITERAL_WIDTH, default))
-}
-
-fn field_is_lawful(
-    names: &[u32],
-    type_refs: &[u32],
-    arguments: &[u32],
-    literals: &[u32],
-    field: Field,
-) -> bool
-    ensures { λ r. ⌜ r ≡ fieldLawful (now (names .entry)) (now («type_refs» .entry)) (now (arguments .entry)) (now (literals .entry)) field ⌝ }
-{
-    let name = field.name;
-    let default = field.default;
-    let its_arguments = field.arguments;
-    let typed = is_typed(names, type_refs, literals, name, field.ty, default);
-    let ranged = is_within(arguments, ARGUMENT_WIDTH, its_arguments);
-    both(name != 0, both(typed, ranged))
-}
-
-pub fn field_row(
-    names: &[u32],
-    type_refs: &[u32],
-    fields: &[u32],
-    arguments: &[u32],
-    literals: &[u32],
-    row: u32,
-) -> bool
-    ensures { λ r. ⌜ r ≡ fieldRow (now (names .entry)) (now («type_refs» .entry)) (now (fields .entry)) (now (arguments .entry)) (now (literals .entry)) row ⌝ }
-{
-    field_is_lawful(names, type_refs, arguments, literals, field_at(fields, row))
-}
-
-pub fn fields_differ(types: &[u32], fields: &[u32], row: u32) -> bool
-    ensures { λ r. ⌜ r ≡ fieldsDiffer (now (types .entry)) (now (fields .entry)) row ⌝ }
-{
-    let ty = type_at(types, row);
-    let its_fields = ty.fields;
-    is_distinct(fields, FIELD_WIDTH, 0, its_fields)
-}
-
 pub fn argument_at(arguments: &[u32], row: u32) -> Argument
     ensures { λ r. ⌜ r ≡ argumentAt (now (arguments .entry)) row ⌝ }
 {
@@ -285,55 +150,4 @@ pub fn argument_at(arguments: &[u32], row: u32) -> Argument
         default,
         place: cell(arguments, ARGUMENT_WIDTH, at, 3),
     }
-}
-
-pub fn argument_row(
-    names: &[u32],
-    type_refs: &[u32],
-    arguments: &[u32],
-    literals: &[u32],
-    row: u32,
-) -> bool
-    ensures { λ r. ⌜ r ≡ argumentRow (now (names .entry)) (now («type_refs» .entry)) (now (arguments .entry)) (now (literals .entry)) row ⌝ }
-{
-    let argument = argument_at(arguments, row);
-    let default = argument.default;
-    is_typed(
-        names,
-        type_refs,
-        literals,
-        argument.name,
-        argument.ty,
-        default,
-    )
-}
-
-pub fn arguments_differ(fields: &[u32], arguments: &[u32], row: u32) -> bool
-    ensures { λ r. ⌜ r ≡ argumentsDiffer (now (fields .entry)) (now (arguments .entry)) row ⌝ }
-{
-    let field = field_at(fields, row);
-    let its_arguments = field.arguments;
-    is_distinct(arguments, ARGUMENT_WIDTH, 0, its_arguments)
-}
-
-fn is_object_kind(kind: TypeKind) -> bool
-    ensures { λ r. ⌜ r ≡ objectKind kind ⌝ }
-{
-    match kind {
-        TypeKind::Scalar => false,
-        TypeKind::Enum => false,
-        TypeKind::Object => true,
-        TypeKind::Interface => false,
-        TypeKind::Union => false,
-        TypeKind::InputObject => false,
-        TypeKind::Unknown => false,
-    }
-}
-
-pub fn root_is_object(types: &[u32], root: u32) -> bool
-    ensures { λ r. ⌜ r ≡ rootType (now (types .entry)) root ⌝ }
-{
-    let ty = type_at(types, root);
-    let kind = ty.kind;
-    both(is_row(types, TYPE_WIDTH, root), is_object_kind(kind))
 }

@@ -1,7 +1,6 @@
 // Strings: parts of the byte pool.
 ghost use mathlib.Core.Path.{_≡_};
-ghost use Rattle.rows.specs.Strings.{textOf, inPool, isString, isFloatText, same};
-use crate::layout::both;
+ghost use Rattle.rows.specs.Strings.{textOf, same};
 
 // Where a string stands in the pool.
 pub struct Text {
@@ -24,31 +23,6 @@ pub fn text_of(pool: &[u8], text: Text) -> &[u8]
     } else {
         &pool[..0]
     }
-}
-
-pub(crate) fn is_in_pool(pool: &[u8], text: Text) -> bool
-    ensures { λ r. ⌜ r ≡ inPool (now (pool .entry)) text ⌝ }
-{
-    let end = (text.start as usize) + (text.len as usize);
-    end <= pool.len()
-}
-
-pub(crate) fn is_string(pool: &[u8], text: Text) -> bool
-    ensures { λ r. ⌜ r ≡ isString (now (pool .entry)) text ⌝ }
-{
-    both(
-        is_in_pool(pool, text),
-        text::utf8::is_utf8(text_of(pool, text)),
-    )
-}
-
-pub(crate) fn is_float_text(pool: &[u8], text: Text) -> bool
-    ensures { λ r. ⌜ r ≡ isFloatText (now (pool .entry)) text ⌝ }
-{
-    both(
-        is_in_pool(pool, text),
-        text::numbers::is_float(text_of(pool, text)),
-    )
 }
 
 // The same bytes.

@@ -1,3 +1,5 @@
 pub mod Closed
+pub mod Facts
 pub mod Lawful
+pub mod Nested
 pub mod Numbered

@@ -1,17 +1,22 @@
--- A rule by its number: which list it stands in. Assumes nothing.
+-- A rule by its number, and the number of a rule. Assumes nothing.
 use mathlib.Core.Path.{_≡_, refl, sym, _∙_}
 use mathlib.Core.List.{List, [], _∷_, _++_, map}
 use Prim.Native.Nat.{ℕ, zero, suc, _+_, _-_, _≤_, _<_}
 use native.Mathlib.Nat.{not-suc-le-zero, le-of-suc-le-suc, zero-add, suc-add}
 use native.Mathlib.Omega.{arith}
+use denote.Enum.Declared.{tagOf}
 use lib.ListN.{length, getD, List·getD-map}
 use Rattle.tables.specs.Rules.{sizeRules, sizeRule, schemaRules, schemaRule, documentRules, documentRule, valueRules, valueRule, ruleAt}
-use Rattle.tables.specs.declared.rules.Rule.{Rule}
-use Rattle.tables.specs.declared.rules.Rule.the-variants as rule
-use Rattle.tables.specs.declared.rules.SizeRule.the-variants as size
-use Rattle.tables.specs.declared.rules.SchemaRule.the-variants as schema
-use Rattle.tables.specs.declared.rules.DocumentRule.the-variants as document
-use Rattle.tables.specs.declared.rules.ValueRule.the-variants as value
+use Rattle.tables.specs.declared.rulebook.Rule.{Rule}
+use Rattle.tables.specs.declared.rulebook.Rule.the-variants as rule
+use Rattle.tables.proofs.rulebook.SizeRule.{the-type as the-size-type}
+use Rattle.tables.proofs.rulebook.SchemaRule.{the-type as the-schema-type}
+use Rattle.tables.proofs.rulebook.DocumentRule.{the-type as the-document-type}
+use Rattle.tables.proofs.rulebook.ValueRule.{the-type as the-value-type}
+use Rattle.tables.specs.declared.rulebook.SizeRule.the-variants as size
+use Rattle.tables.specs.declared.rulebook.SchemaRule.the-variants as schema
+use Rattle.tables.specs.declared.rulebook.DocumentRule.the-variants as document
+use Rattle.tables.specs.declared.rulebook.ValueRule.the-variants as value
 
 -- a number that is none of those below b, and not b
 pub past : (b k : ℕ) → b ≤ k → (k ≡ b → ⊥) → b + 1 ≤ k
@@ -69,3 +74,59 @@ rule-value k l =
     ∙ back rule.Document last documentRules afterDocument (k - 27) (k - 36) (omega arith)
     ∙ back rule.Schema last schemaRules afterSchema (k - 14) (k - 27) (omega arith)
     ∙ back rule.Size last sizeRules afterSize k (k - 14) (omega arith)
+
+-- where a rule stands in the list of all
+abbrev pub number : Rule → ℕ
+number (rule.Size r) = tagOf the-size-type r
+number (rule.Schema r) = 14 + tagOf the-schema-type r
+number (rule.Document r) = 27 + tagOf the-document-type r
+number (rule.Value r) = 36 + tagOf the-value-type r
+
+pub numbered : (r : Rule) → ruleAt (number r) ≡ r
+unfolding ruleAt
+numbered (rule.Size size.Pool) = refl
+numbered (rule.Size size.Names) = refl
+numbered (rule.Size size.TypeRefs) = refl
+numbered (rule.Size size.Types) = refl
+numbered (rule.Size size.Fields) = refl
+numbered (rule.Size size.Arguments) = refl
+numbered (rule.Size size.Sets) = refl
+numbered (rule.Size size.Selections) = refl
+numbered (rule.Size size.Given) = refl
+numbered (rule.Size size.Fragments) = refl
+numbered (rule.Size size.Nodes) = refl
+numbered (rule.Size size.Literals) = refl
+numbered (rule.Size size.Variables) = refl
+numbered (rule.Size size.Answers) = refl
+numbered (rule.Schema schema.NameSpelled) = refl
+numbered (rule.Schema schema.NameReserved) = refl
+numbered (rule.Schema schema.NamesDiffer) = refl
+numbered (rule.Schema schema.TypeReference) = refl
+numbered (rule.Schema schema.TypeRow) = refl
+numbered (rule.Schema schema.TypeParts) = refl
+numbered (rule.Schema schema.TypeNamesDiffer) = refl
+numbered (rule.Schema schema.Member) = refl
+numbered (rule.Schema schema.FieldRow) = refl
+numbered (rule.Schema schema.FieldNamesDiffer) = refl
+numbered (rule.Schema schema.ArgumentRow) = refl
+numbered (rule.Schema schema.ArgumentNamesDiffer) = refl
+numbered (rule.Schema schema.RootType) = refl
+numbered (rule.Document document.SetRow) = refl
+numbered (rule.Document document.SelectionRow) = refl
+numbered (rule.Document document.GivenRow) = refl
+numbered (rule.Document document.GivenNamesDiffer) = refl
+numbered (rule.Document document.FragmentRow) = refl
+numbered (rule.Document document.FragmentNamesDiffer) = refl
+numbered (rule.Document document.ChildSetsLarger) = refl
+numbered (rule.Document document.SelectionOwnsAlone) = refl
+numbered (rule.Document document.FragmentOwnsAlone) = refl
+numbered (rule.Value value.NodeRow) = refl
+numbered (rule.Value value.NodeKey) = refl
+numbered (rule.Value value.NodeKeysDiffer) = refl
+numbered (rule.Value value.LiteralRow) = refl
+numbered (rule.Value value.LiteralKeysDiffer) = refl
+numbered (rule.Value value.VariableRow) = refl
+numbered (rule.Value value.VariableNamesDiffer) = refl
+numbered (rule.Value value.AnswerRow) = refl
+numbered (rule.Value value.AnswerNamesDiffer) = refl
+numbered (rule.Value value.RootAnswer) = refl

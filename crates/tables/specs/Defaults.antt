@@ -6,9 +6,11 @@ use Prim.Native.Nat.{ℕ, zero, suc, _+_, _≤_, _<_}
 use lib.ListN.{length, getD}
 use lib.Dec.{eqb}
 use Rattle.rows.specs.Layout.{fieldWidth, argumentWidth, literalWidth}
-use Rattle.rows.specs.Rows.{all, rowsOf, rowOrNone}
+use Rattle.rows.specs.Limits.{mostLiterals}
+use Rattle.rows.specs.Rows.{all, rowsOf}
 use Rattle.rows.specs.Schema.{fieldAt, argumentAt}
-use Rattle.rows.specs.Json.{literalAt, literalRow}
+use Rattle.rows.specs.Json.{literalAt}
+use Rattle.rules.specs.Rows.{rowOrNone, later}
 use Rattle.rows.specs.declared.layout.Range.{Range}
 use Rattle.rows.specs.declared.layout.Optional.{Optional}
 use Rattle.rows.specs.declared.layout.Optional.the-variants.{Absent, Row}
@@ -78,12 +80,29 @@ argumentUnmarked arguments marks row = defaultUnmarked marks (argumentAt argumen
 
 -- every literal from a row on is marked as it is
 pub record Marked (literals marks : List ℕ) (from : ℕ) : Type 0 where
-  pub size : length marks ≡ 1024
+  pub size : length marks ≡ mostLiterals
   pub right : (row : ℕ) → from ≤ row → row < rowsOf literals literalWidth → unmarked marks row ≡ closed literals row
 
--- what the marking rests on: lawful literals, of which there are not too many, and defaults that are there
-pub record Defaulted (pool names fields arguments literals : List ℕ) : Type 0 where
-  pub few : rowsOf literals literalWidth ≤ 1024
-  pub lawful : all (literalRow pool names literals) (rowsOf literals literalWidth) ≡ true
-  pub ofFields : (row : ℕ) → row < rowsOf fields fieldWidth → rowOrNone literals literalWidth (fieldAt fields row .default) ≡ true
-  pub ofArguments : (row : ℕ) → row < rowsOf arguments argumentWidth → rowOrNone literals literalWidth (argumentAt arguments row .default) ≡ true
+-- What the marking rests on: the parts of a literal come later than it, and there are not too many literals.
+abbrev pub partsLater : ℕ → ℕ → Literal → Bool
+partsLater literals row literal.Null = true
+partsLater literals row literal.False = true
+partsLater literals row literal.True = true
+partsLater literals row (literal.Natural n) = true
+partsLater literals row (literal.Negative m) = true
+partsLater literals row (literal.Float text) = true
+partsLater literals row (literal.String text) = true
+partsLater literals row (literal.List rows) = later literals row rows
+partsLater literals row (literal.Object rows) = later literals row rows
+partsLater literals row (literal.Enum name) = true
+partsLater literals row (literal.Variable name) = true
+partsLater literals row literal.Unknown = true
+
+pub record Nested (literals : List ℕ) : Type 0 where
+  pub few : rowsOf literals literalWidth ≤ mostLiterals
+  pub parts : (row : ℕ) → row < rowsOf literals literalWidth → partsLater (rowsOf literals literalWidth) row (literalAt literals row) ≡ true
+
+-- and the defaults are there
+pub record Defaulted (fields arguments literals : List ℕ) : Type 0 where
+  pub ofFields : (row : ℕ) → row < rowsOf fields fieldWidth → rowOrNone (rowsOf literals literalWidth) (fieldAt fields row .default) ≡ true
+  pub ofArguments : (row : ℕ) → row < rowsOf arguments argumentWidth → rowOrNone (rowsOf literals literalWidth) (argumentAt arguments row .default) ≡ true

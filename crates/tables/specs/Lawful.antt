@@ -2,6 +2,7 @@
 use mathlib.Core.Bool.{Bool, _&&_, cond}
 use Prim.Native.Nat.{ℕ}
 use lib.Dec.{leb}
+use Rattle.rows.specs.Limits.{mostTextBytes, mostErrorWords, mostChoices}
 use Rattle.tables.specs.Tables.{Tables}
 use Rattle.tables.specs.Rules.{rowsLawful}
 use Rattle.tables.specs.Defaults.{defaultsClosed}
@@ -16,4 +17,4 @@ tableCode T = cond (lawful T) 0 1
 
 -- "Text buffer 0 to 65,536 bytes, error buffer 0 to 16,384 words, choices up to 4,096."
 unfoldable pub lawfulBuffers : ℕ → ℕ → ℕ → Bool
-lawfulBuffers text errors choices = leb text 65536 && (leb errors 16384 && leb choices 4096)
+lawfulBuffers text errors choices = leb text mostTextBytes && (leb errors mostErrorWords && leb choices mostChoices)

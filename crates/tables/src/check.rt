@@ -1,14 +1,80 @@
 // The table check: code 0 where every rule of document 01 on the tables lent holds, and 1 otherwise.
 ghost use mathlib.Core.Path.{_≡_};
 ghost use Rattle.tables.specs.Tables.{tables};
+ghost use Rattle.tables.specs.Rules.{rowsLawful};
+ghost use Rattle.tables.specs.Broken.{isNowhere};
 ghost use Rattle.tables.specs.Lawful.{tableCode, lawfulBuffers};
+use crate::broken::Broken;
+use crate::broken::first_broken;
 use crate::defaults::defaults_are_closed;
-use crate::rules::rows_are_lawful;
-use rows::layout::both;
+use crate::rulebook::RULE_COUNT;
+use crate::rulebook::rule_at;
+use rows::limits::MOST_CHOICES;
+use rows::limits::MOST_ERROR_WORDS;
+use rows::limits::MOST_TEXT_BYTES;
 
 pub const LAWFUL: u32 = 0;
 
 pub const UNLAWFUL: u32 = 1;
+
+fn is_nowhere(broken: Broken) -> bool
+    ensures { λ r. ⌜ r ≡ isNowhere broken ⌝ }
+{
+    match broken {
+        Broken::At(_) => false,
+        Broken::Nowhere => true,
+    }
+}
+
+// Every rule holds at every row that it speaks of.
+fn rows_are_lawful(
+    pool: &[u8],
+    names: &[u32],
+    type_refs: &[u32],
+    types: &[u32],
+    members: &[u32],
+    fields: &[u32],
+    arguments: &[u32],
+    sets: &[u32],
+    selections: &[u32],
+    given: &[u32],
+    fragments: &[u32],
+    nodes: &[u32],
+    literals: &[u32],
+    variables: &[u32],
+    answers: &[u32],
+    root: u32,
+) -> bool
+    ensures { λ r. ⌜ r ≡ rowsLawful (tables (now (pool .entry)) (now (names .entry)) (now («type_refs» .entry)) (now (types .entry)) (now (members .entry)) (now (fields .entry)) (now (arguments .entry)) (now (sets .entry)) (now (selections .entry)) (now (given .entry)) (now (fragments .entry)) (now (nodes .entry)) (now (literals .entry)) (now (variables .entry)) (now (answers .entry)) root) ⌝ }
+{
+    let mut k: u32 = 0;
+    while k < RULE_COUNT {
+        let broken = first_broken(
+            rule_at(k),
+            pool,
+            names,
+            type_refs,
+            types,
+            members,
+            fields,
+            arguments,
+            sets,
+            selections,
+            given,
+            fragments,
+            nodes,
+            literals,
+            variables,
+            answers,
+            root,
+        );
+        if !is_nowhere(broken) {
+            return false;
+        }
+        k += 1;
+    }
+    true
+}
 
 pub fn table_check(
     pool: &[u8],
@@ -50,7 +116,7 @@ pub fn table_check(
     ) {
         return UNLAWFUL;
     }
-    if !defaults_are_closed(pool, names, fields, arguments, literals) {
+    if !defaults_are_closed(fields, arguments, literals) {
         return UNLAWFUL;
     }
     LAWFUL
@@ -60,5 +126,5 @@ pub fn table_check(
 pub fn buffers_are_lawful(text: usize, errors: usize, choices: usize) -> bool
     ensures { λ r. ⌜ r ≡ lawfulBuffers text errors choices ⌝ }
 {
-    both(text <= 65536, both(errors <= 16384, choices <= 4096))
+    (text <= MOST_TEXT_BYTES) & ((errors <= MOST_ERROR_WORDS) & (choices <= MOST_CHOICES))
 }

@@ -1,20 +1,20 @@
 // Defaults contain no variable. A literal may be a part of many others, so each is looked at once, the last row first: its parts
 // come later and are marked already.
 ghost use mathlib.Core.Path.{_≡_};
-ghost use mathlib.Core.Bool.{true};
-ghost use Prim.Native.Nat.{_≤_, _<_};
+ghost use Prim.Native.Nat.{_<_};
 ghost use lib.ListN.{length, set};
-ghost use Rattle.rows.specs.Layout.{literalWidth, fieldWidth, argumentWidth};
+ghost use Rattle.rows.specs.Layout.{fieldWidth, argumentWidth};
+ghost use Rattle.rows.specs.Limits.{mostLiterals};
 ghost use Rattle.rows.specs.Rows.{rowsOf, all};
-ghost use Rattle.rows.specs.Json.{literalRow, literalAt};
-ghost use Rattle.tables.specs.Defaults.{each, closedBut, mark, unmarked, Marked, Defaulted, defaultUnmarked, fieldUnmarked, argumentUnmarked, defaultsClosed};
+ghost use Rattle.rows.specs.Json.{literalAt};
+ghost use Rattle.tables.specs.Defaults.{each, closedBut, mark, unmarked, Marked, Nested, Defaulted, defaultUnmarked, fieldUnmarked, argumentUnmarked, defaultsClosed};
 use rows::json::LITERAL_WIDTH;
 use rows::json::Literal;
 use rows::json::literal_at;
 use rows::layout::Optional;
 use rows::layout::Range;
-use rows::layout::both;
 use rows::layout::row_count;
+use rows::limits::MOST_LITERALS;
 use rows::schema::ARGUMENT_WIDTH;
 use rows::schema::FIELD_WIDTH;
 use rows::schema::argument_at;
@@ -84,10 +84,9 @@ fn mark_row(literals: &[u32], marks: &mut [u8], row: u32)
     marks[at] = mark_of(row_is_closed(literals, marks, row));
 }
 
-fn mark_all(pool: &[u8], names: &[u32], literals: &[u32], marks: &mut [u8])
-    requires { ⌜ length (now marks) ≡ 1024 ⌝ }
-    requires { ⌜ rowsOf (now literals) literalWidth ≤ 1024 ⌝ }
-    requires { ⌜ all (literalRow (now pool) (now names) (now literals)) (rowsOf (now literals) literalWidth) ≡ true ⌝ }
+fn mark_all(literals: &[u32], marks: &mut [u8])
+    requires { ⌜ length (now marks) ≡ mostLiterals ⌝ }
+    requires { ⌜ Nested (now literals) ⌝ }
     ensures { λ _. ⌜ Marked (now (literals .entry)) (now (marks .exit)) 0 ⌝ }
 {
     let mut row = row_count(literals, LITERAL_WIDTH);
@@ -150,21 +149,13 @@ fn arguments_are_unmarked(arguments: &[u32], marks: &[u8]) -> bool
     true
 }
 
-// The rows of the literals are lawful, and the defaults of fields and arguments are literals that are there.
-pub(crate) fn defaults_are_closed(
-    pool: &[u8],
-    names: &[u32],
-    fields: &[u32],
-    arguments: &[u32],
-    literals: &[u32],
-) -> bool
-    requires { ⌜ Defaulted (now pool) (now names) (now fields) (now arguments) (now literals) ⌝ }
+// The parts of literals come later, and the defaults of fields and arguments are literals that are there.
+pub(crate) fn defaults_are_closed(fields: &[u32], arguments: &[u32], literals: &[u32]) -> bool
+    requires { ⌜ Nested (now literals) ⌝ }
+    requires { ⌜ Defaulted (now fields) (now arguments) (now literals) ⌝ }
     ensures { λ r. ⌜ r ≡ defaultsClosed (now (fields .entry)) (now (arguments .entry)) (now (literals .entry)) ⌝ }
 {
-    let mut marks = [0u8; 1024];
-    mark_all(pool, names, literals, &mut marks);
-    both(
-        fields_are_unmarked(fields, &marks),
-        arguments_are_unmarked(arguments, &marks),
-    )
+    let mut marks = [0u8; MOST_LITERALS];
+    mark_all(literals, &mut marks);
+    fields_are_unmarked(fields, &marks) & arguments_are_unmarked(arguments, &marks)
 }

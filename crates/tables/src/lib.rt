@@ -1,4 +1,5 @@
 // Which tables are lawful: the rules of document 01 by name, defaults without a variable, and the public entry `check::table_check`.
+pub mod broken;
 pub mod check;
 mod defaults;
-pub mod rules;
+pub mod rulebook;

@@ -5,7 +5,9 @@ use Rattle.tables.proofs.defaults.defaults_are_closed.Statement.{statem
 use Rattle.tables.proofs.defaults.defaults_are_closed.Tie as tie
 
 returns : tie.Need-returns
-returns c = rw (c .both .ensures, c .before .before .before .fields-are-unmarked .ensures, c .before .arguments-are-unmarked .ensures) (defaults-closed _ _ _ _ _ _ (c .before .before .before .before .before .before .before .before .before .before .before .before .before .pre) (c .before .before .before .before .before .before .mark-all .ensures))
+returns c =
+    rw (c .before .before .fields-are-unmarked .ensures, c .arguments-are-unmarked .ensures)
+    (defaults-closed _ _ _ _ (c .before .before .before .before .before .before .before .before .before .before .pre .1) (c .before .before .before .before .before .mark-all .ensures))
 
 pub defaults-are-closed-spec : {M : Type 1} → statement M
 defaults-are-closed-spec =
@@ -16,6 +18,5 @@ defaults-are-closed-spec =
     (λ c. search needs)
     (λ c κs. search needs)
     (λ c. search needs)
-    (λ c κs. search needs)
     (λ c κs. search needs)
     returns)

@@ -10,16 +10,19 @@ use Rattle.tables.proofs.defaults.mark_all.Statement.{statement}
 use Rattle.tables.proofs.defaults.mark_all.Tie as tie
 
 abbrev Inv-loop : tie.InvT-loop
-Inv-loop pool names literals marks₀ row₀ marks row = (row ≤ rowsOf literals literalWidth) × Marked literals marks row
+Inv-loop literals marks₀ row₀ marks row = (row ≤ rowsOf literals literalWidth) × Marked literals marks row
 
 abbrev μ-loop : tie.MeasureT-loop
-μ-loop pool names literals marks₀ row₀ marks row = row
+μ-loop literals marks₀ row₀ marks row = row
 
 loop-holds : tie.Need-loop-holds Inv-loop μ-loop
-loop-holds c = (search needs, rw (c .row-count .ensures) (mark-none (c .before .before .before .before .before .args .pool .now) (c .before .before .before .before .before .args .names .now) (c .before .before .before .before .before .args .literals .now) (c .before .before .before .before .before .pre .1 .1) _ (c .before .before .before .before .before .pre .0)))
+loop-holds c = (search needs, rw (c .row-count .ensures) (mark-none (c .before .before .before .args .literals .now) (c .before .before .before .pre .1) _ (c .before .before .before .pre .0)))
 
 loop-again : tie.Need-loop-again Inv-loop μ-loop
-loop-again c = (search needs, mark-turn (c .before .before .before .before .before .before .before .before .before .before .before .args .pool .now) (c .before .before .before .before .before .before .before .before .before .before .before .args .names .now) (c .before .before .before .before .before .before .before .before .before .before .before .args .literals .now) (c .before .before .before .before .before .before .before .before .before .before .before .pre .1 .1) _ _ (c .before .before .before .before .before .loop .row) (omega arith) (c .before .before .before .before .before .loop .inv .0) (c .before .before .before .before .before .before .before .before .before .before .before .pre .1 .0) (c .before .before .before .before .before .loop .inv .1) (c .before .before .mark-row .ensures))
+loop-again c =
+    let start = c .before .before .before .before .before .before .before .before .before in
+    let turn = c .before .before .before .before .before .loop in
+    (search needs, mark-turn (start .args .literals .now) (start .pre .1) _ _ (turn .row) (omega arith) (turn .inv .0) (turn .inv .1) (c .before .before .mark-row .ensures))
 
 returns : tie.Need-returns Inv-loop μ-loop
 returns c = mark-end _ _ (c .before .loop .row) (c .loop-test .left) (c .before .loop .inv .1)

@@ -1,0 +1,11 @@
+-- Assumes nothing.
+use borrow.Author.Needs.{needs}
+use Rattle.rules.proofs.answers.answer_row.Statement.{statement}
+use Rattle.rules.proofs.answers.answer_row.Tie as tie
+
+returns : tie.Need-returns
+returns c = cc
+
+pub answer-row-spec : {M : Type 1} → statement M
+answer-row-spec =
+    tie.close (tie.spec (λ c κs. search needs) (λ c κs. search needs) (λ c κs. search needs) returns)

@@ -1,0 +1,10 @@
+-- By the kinds: each arm is told which constructor it has, at which the definition computes. Assumes nothing.
+use borrow.Author.Needs.{needs}
+use Rattle.rules.proofs.document.is_other_set.Statement.{statement}
+use Rattle.rules.proofs.document.is_other_set.Tie as tie
+
+returns-2 : tie.Need-returns-2
+returns-2 c = rw (c .before .owned .given .1)
+
+pub is-other-set-spec : {M : Type 1} → statement M
+is-other-set-spec = tie.close (tie.spec (λ c. search needs) (λ c. search needs) (λ c. search needs) returns-2)

@@ -1,0 +1,26 @@
+-- One row after the other; the measure is the rows that are left. Assumes nothing.
+use Prim.Native.Nat.{_≤_, _-_}
+use borrow.Author.Needs.{needs}
+use Rattle.rules.proofs.keys.end_of_children.Statement.{statement}
+use Rattle.rules.proofs.keys.end_of_children.Tie as tie
+
+abbrev Inv-loop : tie.InvT-loop
+Inv-loop nodes rows end₀ row₀ end row = row ≤ rows
+
+abbrev μ-loop : tie.MeasureT-loop
+μ-loop nodes rows end₀ row₀ end row = rows - row
+
+pub end-of-children-spec : {M : Type 1} → statement M
+end-of-children-spec =
+    tie.close
+    (tie.spec
+    Inv-loop
+    μ-loop
+    (λ c. search needs)
+    (λ c κs. search needs)
+    (λ c κs. search needs)
+    (λ c κs. search needs)
+    (λ c. search needs)
+    (λ c. search needs)
+    (λ c. search needs)
+    (λ c. search needs))

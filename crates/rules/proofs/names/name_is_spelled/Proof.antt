@@ -1,0 +1,14 @@
+-- Assumes nothing.
+use Rattle.rules.specs.Names.{nameSpelled}
+use borrow.Author.Needs.{needs}
+use Rattle.rules.proofs.names.name_is_spelled.Statement.{statement}
+use Rattle.rules.proofs.names.name_is_spelled.Tie as tie
+
+returns : tie.Need-returns
+unfolding nameSpelled
+returns c = cc
+
+pub name-is-spelled-spec : {M : Type 1} → statement M
+name-is-spelled-spec =
+    tie.close
+    (tie.spec (λ c κs. search needs) (λ c κs. search needs) (λ c κs. search needs) (λ c κs. search needs) returns)
