@@ -12,14 +12,14 @@ use table_file::layout::Words;
 use table_file::layout::row_start;
 use table_file::line_of_row;
 ghost use Prim.Native.Nat.{_<_};
-use tables::rules::DocumentRule;
-use tables::rules::RULE_COUNT;
-use tables::rules::Rule;
-use tables::rules::SchemaRule;
-use tables::rules::ValueRule;
-use tables::rules::rule_at;
-use verdict::rules::Broken;
-use verdict::rules::first_broken;
+use tables::broken::Broken;
+use tables::rulebook::DocumentRule;
+use tables::rulebook::RULE_COUNT;
+use tables::rulebook::Rule;
+use tables::rulebook::SchemaRule;
+use tables::rulebook::ValueRule;
+use tables::rulebook::rule_at;
+use verdict::entries::first_broken;
 
 // How long a table is and which type is the root are said of no row.
 fn is_of_rows(rule: Rule) -> bool {
@@ -99,9 +99,9 @@ fn walks_ranges(rule: Rule) -> bool {
 }
 
 // Where one word is wrong, which, and what it is; where two that stand side by side are, both.
-fn print_wrong_words(number: u32, row: u32, pool: &Pool, words: &mut Words, sizes: Sizes) {
-    let table = table_of(rule_at(number));
-    match wrong_words(number, table, row, pool, words, sizes) {
+fn print_wrong_words(rule: Rule, row: u32, pool: &Pool, words: &mut Words, sizes: Sizes) {
+    let table = table_of(rule);
+    match wrong_words(rule, table, row, pool, words, sizes) {
         Wrong::Word(column) => {
             say::words(b", word ");
             say::number(column as u64);
@@ -133,14 +133,13 @@ fn print_row(text: &[u8], table: usize, row: u32, pool: &mut Pool, words: &mut W
 }
 
 fn print_broken(
-    number: u32,
+    rule: Rule,
     row: u32,
     text: &[u8],
     pool: &mut Pool,
     words: &mut Words,
     sizes: Sizes,
 ) {
-    let rule = rule_at(number);
     let table = table_of(rule);
     say::words(b"  ");
     if is_of_rows(rule) {
@@ -149,7 +148,7 @@ fn print_broken(
         print_table(table);
     }
     if is_of_words(rule) {
-        print_wrong_words(number, row, pool, words, sizes);
+        print_wrong_words(rule, row, pool, words, sizes);
     }
     say::words(b": ");
     print_rule(rule);
@@ -159,19 +158,19 @@ fn print_broken(
 // Prints the rule if it is broken, and answers whether it is. A rule that walks ranges is asked only where no earlier rule is broken: it
 // is the earlier ones that bound how long a range is, how many rows share it, and how long a name is.
 fn is_printed(
-    number: u32,
+    rule: Rule,
     is_any: bool,
     text: &[u8],
     pool: &mut Pool,
     words: &mut Words,
     sizes: Sizes,
 ) -> bool {
-    if is_any && walks_ranges(rule_at(number)) {
+    if is_any && walks_ranges(rule) {
         return false;
     }
-    match first_broken(number, pool, words, sizes) {
+    match first_broken(rule, pool, words, sizes) {
         Broken::At(row) => {
-            print_broken(number, row, text, pool, words, sizes);
+            print_broken(rule, row, text, pool, words, sizes);
             true
         }
         Broken::Nowhere => false,
@@ -183,7 +182,7 @@ pub(crate) fn print_broken_rules(text: &[u8], pool: &mut Pool, words: &mut Words
     let mut is_any = false;
     let mut number: u32 = 0;
     while number < RULE_COUNT {
-        if is_printed(number, is_any, text, pool, words, sizes) {
+        if is_printed(rule_at(number), is_any, text, pool, words, sizes) {
             is_any = true;
         }
         number += 1;

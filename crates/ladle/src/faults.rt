@@ -1,9 +1,20 @@
-// Why a text is no table file, in words.
+// Why a file cannot be asked about, in words.
 use crate::lists::line;
 use crate::say;
 use crate::sentences::print_table;
 use table_file::fault::Fault;
 use table_file::layout::row_width;
+use verdict::file;
+
+// What kept a file's text from being read.
+pub(crate) fn print_file_fault(why: file::Fault) {
+    match why {
+        file::Fault::Fine => {}
+        file::Fault::CannotBeOpened => say::words(b"cannot be opened"),
+        file::Fault::CannotBeRead => say::words(b"cannot be read"),
+        file::Fault::TooLarge => say::words(b"is larger than the 1,048,576 bytes that ladle reads"),
+    }
+}
 
 fn print_row_fault(table: usize, count: usize) {
     say::number(count as u64);
@@ -76,6 +87,7 @@ fn is_about_token(why: Fault) -> bool {
     }
 }
 
+// Why a text is no table file.
 pub(crate) fn print_fault(why: Fault, token: &[u8]) {
     print_why(why);
     if is_about_token(why) {

@@ -6,8 +6,9 @@ use table_file::layout::Words;
 use table_file::layout::row_start;
 use table_file::layout::row_width;
 ghost use Prim.Native.Nat.{_<_};
-use verdict::rules::Broken;
-use verdict::rules::first_broken;
+use tables::broken::Broken;
+use tables::rulebook::Rule;
+use verdict::entries::first_broken;
 
 // Which words of a row are wrong: one, two that stand side by side, as a range or a string, or several.
 pub enum Wrong {
@@ -42,7 +43,7 @@ pub(crate) fn word_at(words: &Words, table: usize, row: u32, column: usize) -> u
 
 // Whether the rule would hold at the row with this number for a word.
 fn mends(
-    rule: u32,
+    rule: Rule,
     row: u32,
     place: usize,
     number: u32,
@@ -64,7 +65,7 @@ fn mends(
 
 // The numbers that are tried are the least kinds and rows, and the row behind this one, where children may begin.
 fn is_mended_at(
-    rule: u32,
+    rule: Rule,
     row: u32,
     place: usize,
     pool: &Pool,
@@ -94,7 +95,7 @@ fn is_known_kind(table: usize, column: usize, word: u32) -> bool {
 }
 
 fn is_wrong(
-    rule: u32,
+    rule: Rule,
     table: usize,
     row: u32,
     column: usize,
@@ -127,7 +128,7 @@ fn and_word(wrong: Wrong, column: usize) -> Wrong {
 
 // The words of a row for any one of which another number would mend it, where the rule is broken.
 pub(crate) fn wrong_words(
-    rule: u32,
+    rule: Rule,
     table: usize,
     row: u32,
     pool: &Pool,

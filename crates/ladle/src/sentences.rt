@@ -3,11 +3,11 @@ use crate::lists::line;
 use crate::say;
 use table_file::layout;
 ghost use Prim.Native.Nat.{_<_};
-use tables::rules::DocumentRule;
-use tables::rules::Rule;
-use tables::rules::SchemaRule;
-use tables::rules::SizeRule;
-use tables::rules::ValueRule;
+use tables::rulebook::DocumentRule;
+use tables::rulebook::Rule;
+use tables::rulebook::SchemaRule;
+use tables::rulebook::SizeRule;
+use tables::rulebook::ValueRule;
 
 pub(crate) fn print_table(table: usize) {
     say::words(line(

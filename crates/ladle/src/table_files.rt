@@ -1,7 +1,7 @@
 // One table file: its answer, or why it is none.
 use crate::explain;
 use crate::faults::print_fault;
-use crate::lists::line;
+use crate::faults::print_file_fault;
 use crate::say;
 use table_file::fault::Fault;
 use table_file::layout;
@@ -18,17 +18,6 @@ use verdict::words::print_depth as print_depth_answer;
 pub enum Question {
     Check,
     Depth,
-}
-
-// What kept a file's text from being read, in the order of `verdict::file`'s numbers.
-fn print_file_fault(why: u32) {
-    say::words(line(
-        b"\n\
-        cannot be opened\n\
-        cannot be read\n\
-        is larger than the 1,048,576 bytes that ladle reads",
-        why as usize,
-    ));
 }
 
 // The table check's code, and under it what is wrong.
@@ -86,13 +75,14 @@ fn answer_text(question: Question, path: &[u8], is_one_of_several: bool, text: &
 pub(crate) fn answer(question: Question, path: &[u8], is_one_of_several: bool) {
     let mut text = file::new_text();
     let read = file::read_text(path, &mut text);
-    if read.fault != file::FINE {
+    let why = read.fault;
+    let file::Fault::Fine = why else {
         say::words(path);
         say::words(b": ");
-        print_file_fault(read.fault);
+        print_file_fault(why);
         say::words(b"\n");
         return;
-    }
+    };
     answer_text(
         question,
         path,

@@ -70,11 +70,12 @@ fn replay_argument(number: usize) {
     }
     let mut text = file::new_text();
     let read = file::read_text(&path[..n], &mut text);
-    if read.fault != file::FINE {
+    let why = read.fault;
+    let file::Fault::Fine = why else {
         say(&path[..n]);
         say(b" cannot be read\n");
         return;
-    }
+    };
     replay(file::bytes(&text, read.length));
 }
 

@@ -34,8 +34,8 @@ pub fn write(tables: &Tables) -> String {
     text + &format!("[root]\n{}\n", tables.root)
 }
 
-/// The same in fewer bytes: empty tables and a root of 0 are left out, equal lines that follow one
-/// another are written once with their number.
+/// The same in fewer lines: empty tables and a root of 0 are left out, equal rows that follow one
+/// another are written once with their number, and others share a line.
 pub fn write_short(tables: &Tables) -> String {
     let quoted = strings_fit(tables);
     let mut text = String::new();
@@ -65,14 +65,35 @@ fn push_lines(text: &mut String, lines: &[String]) {
     }
 }
 
-/// Equal lines that may be folded and follow one another stand once, with their number.
-fn push_folded(text: &mut String, lines: &[String], may_fold: impl Fn(&str) -> bool) {
-    for equal in lines.chunk_by(|one, two| one == two && may_fold(one)) {
-        match equal {
-            [line] => *text += line,
-            _ => *text += &format!("{} * {}", equal.len(), equal[0]),
+/// Equal rows that may be folded and follow one another stand once, with their number, on a line of
+/// their own. Of the others as many stand on a line as there is room for.
+fn push_folded(text: &mut String, rows: &[String], may_fold: impl Fn(&str) -> bool) {
+    let mut line = String::new();
+    for equal in rows.chunk_by(|one, two| one == two && may_fold(one)) {
+        let (row, count) = (&equal[0], equal.len());
+        if count > 1 || line.len() + BETWEEN.len() + row.len() > LINE {
+            push_line(text, &mut line);
         }
+        if count > 1 {
+            *text += &format!("{count} * {row}\n");
+        } else {
+            line += if line.is_empty() { "" } else { BETWEEN };
+            line += row;
+        }
+    }
+    push_line(text, &mut line);
+}
+
+/// The length of a line that rows share, and what stands between them.
+const LINE: usize = 100;
+const BETWEEN: &str = "  ";
+
+/// The line so far, if there is one, and a new one.
+fn push_line(text: &mut String, line: &mut String) {
+    if !line.is_empty() {
+        *text += line;
         text.push('\n');
+        line.clear();
     }
 }
 

@@ -1,8 +1,8 @@
--- The rows of the rule, of the tables held. Assumes nothing.
+-- The words lent are those that the file holds. Assumes nothing.
 use Rattle.verdict.proofs.Held.{held-by}
 use borrow.Author.Needs.{needs}
-use Rattle.verdict.proofs.rules.row_count.Statement.{statement}
-use Rattle.verdict.proofs.rules.row_count.Tie as tie
+use Rattle.verdict.proofs.entries.first_broken.Statement.{statement}
+use Rattle.verdict.proofs.entries.first_broken.Tie as tie
 
 returns : tie.Need-returns
 returns c =
@@ -22,14 +22,16 @@ returns c =
     let refs = types .before in
     let names = refs .before in
     let pool = names .before in
-    let same = held-by _ _ _ (pool .pool-bytes .ensures) (names .table .ensures) (refs .table2 .ensures) (types .table3 .ensures) (members .table4 .ensures) (fields .table5 .ensures) (arguments .table6 .ensures) (sets .table7 .ensures) (selections .table8 .ensures) (given .table9 .ensures) (fragments .table10 .ensures) (nodes .table11 .ensures) (literals .table12 .ensures) (variables .table13 .ensures) (answers .table14 .ensures) (root .root .ensures) in
-    rw (← same, ← (pool .before .rule-at .ensures)) (c .rule-rows .ensures)
+    let same = held-by _ _ _ (pool .pool-bytes .ensures) (names .table .ensures) (refs .table2 .ensures) (types .table3 .ensures) (members .table4 .ensures)
+               (fields .table5 .ensures) (arguments .table6 .ensures) (sets .table7 .ensures) (selections .table8 .ensures)
+               (given .table9 .ensures) (fragments .table10 .ensures) (nodes .table11 .ensures) (literals .table12 .ensures)
+               (variables .table13 .ensures) (answers .table14 .ensures) (root .root .ensures) in
+    rw same at (c .first-broken .ensures)
 
-pub row-count-spec : {M : Type 1} → statement M
-row-count-spec =
+pub first-broken-spec : {M : Type 1} → statement M
+first-broken-spec =
     tie.close
     (tie.spec
-    (λ c κs. search needs)
     (λ c κs. search needs)
     (λ c κs. search needs)
     (λ c κs. search needs)
