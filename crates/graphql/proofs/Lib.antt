@@ -2,12 +2,12 @@
 pub mod Computing
 pub mod Cases
 pub mod Apart
-pub mod There
+pub mod Told
+pub mod Determined
 pub mod Stable
 pub mod Order
 pub mod Meets
-pub mod Plain
+pub mod Fails
 pub mod Places
-pub mod Collected
 pub mod Nulls
 pub mod Demand3

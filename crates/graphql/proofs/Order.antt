@@ -1,5 +1,5 @@
--- Two runs over the same tables agree, whatever their choices: every computation of the definition is made of the combinators that keep
--- `Stable`. One lemma for each definition. Assumes nothing.
+-- Two runs of one request agree, whatever their choices: every computation of the definition is made of the combinators that keep `Stable`. One
+-- lemma for each definition. Assumes nothing.
 use mathlib.Core.List.{List, [], _∷_}
 use mathlib.Core.Bool.{Bool, true, false}
 use mathlib.Core.Option.{Option, none, some}
@@ -19,401 +19,370 @@ use Rattle.rows.specs.declared.json.Literal.{Literal}
 use Rattle.rows.specs.declared.json.Literal.the-variants as literal
 use Rattle.rows.specs.declared.answers.Answer.{Answer}
 use Rattle.rows.specs.declared.answers.Answer.the-variants as answer
-use Rattle.tables.specs.Tables.{Tables}
+use Rattle.graphql.specs.declared.errors.FieldError.{FieldError}
 use Rattle.graphql.specs.Run.{Path, M}
-use Rattle.graphql.specs.Json.{Json, Val, absent, val}
+use Rattle.graphql.specs.Json.{Json}
+use Rattle.graphql.specs.Data.{Val}
+use Rattle.graphql.specs.Values.{opened, arrayOf, objectOf, valueOf, nodeValue, variableValue, Shape, single, listed, keyed, LiteralForm, nothing, variable, shaped, partsOf, partByPart}
 use Rattle.graphql.specs.Collect.{Collected, Group, collectField, enterFragment, spread, collectSelected, collectFields, collectWithin, collect}
-use Rattle.graphql.specs.Coerce.{Arguments, arrayOf, objectOf, valueOf, nodeValue, variableValue, partsOf, partByPart, failAt, coerceVariable, coerceItems, inputField, inputFields, inputObject, coerceAt, coerceNamed, coerceBy, coerceLiteral, coerceValue, defaultArgument, nullFor, variableArgument, literalArgument, givenArgument, coerceArgument, coerceArgumentValues}
-use Rattle.graphql.specs.Complete.{Resolved, skip, error, leaf, list, object', Task, field, item, Definition, typename, defined, Whole, fits, overflows, other, fieldError, nullUnless, echoed, take, takeAnswer, leafIf, intLeaf, scalarLeaf, enumLeaf, completeLeaf, asMember, asImplementer, objectType, executeGroup, executeSelectionSet, completeListAt, completeListValue, completeObject, completeNamed, completeSingle, completeLeafAt, completeValue, kept, completeItem, executeTypename, executeDefined, executeField, step, run, execute}
-use Rattle.graphql.proofs.There.{IfThere, not-there, there}
-use Rattle.graphql.proofs.Stable.{Stable, stable, depth-refused, stable-pure, stable-halt, stable-bind, stable-inOrder}
+use Rattle.graphql.specs.Coerce.{Arguments, failAt, coerceVariable, coerceItems, inputField, inputFields, knownObject, inputObject, coerceNamed, coerceShape, coerceLiteral, coerceArgumentValue, argumentError, valued, defaultArgument, variableArgument, literalArgument, givenArgument, coerceArgument, coerceArgumentValues}
+use Rattle.graphql.specs.Request.{Request}
+use Rattle.graphql.specs.Complete.{Leaf, Resolved, aSkip, anError, aLeaf, aList, anObject, Definition, typename, defined, Task, aField, anItem, tryNullify, fieldError, coerceArguments, echoed, resolved, answered, resolveFieldValue, typeDefined, namedType, scalarLeaf, enumLeaf, leafAt, completeLeafValue, resolveAbstractType, objectType, executeGroup, executeSelectionSet, completeObjectValue, completeItems, completeListValue, completeValue, completeItem, executeField, step, run, execute}
+use Rattle.graphql.proofs.Stable.{Stable, stable, stable-pure, stable-halt, depth-refused, stable-bind, stable-inOrder}
 
-module _ (T : Tables) where
-  -- ---- Collect
+-- ---- Collect
 
-  field-collected : (key row : ℕ) (c : Collected) → Stable (collectField T key row c)
-  unfolding collectField
-  field-collected key row c = search stable
+field-collected : (key row : ℕ) (c : Collected) → Stable (collectField key row c)
+unfolding collectField
+field-collected key row c = search stable
 
+module _ (types members sets selections fragments variables nodes : List ℕ) where
   module _ {open' : ℕ → ℕ → Collected → M Collected} (h : (o s : ℕ) (c : Collected) → Stable (open' o s c)) (object : ℕ) where
-    fragment-entered : (f : Option ℕ) (c : Collected) → Stable (enterFragment T open' object f c)
+    fragment-entered : (f : Option ℕ) (c : Collected) → Stable (enterFragment types members sets selections fragments variables nodes open' object f c)
     unfolding enterFragment
     fragment-entered none c = search stable
     fragment-entered (some f) c = search stable
 
-    spread-stable : (n : ℕ) (c : Collected) → Stable (spread T open' object n c)
+    spread-stable : (n : ℕ) (c : Collected) → Stable (spread types members sets selections fragments variables nodes open' object n c)
     unfolding spread
     spread-stable n c = search (stable, fragment-entered)
 
-    selected-stable : (row : ℕ) (s : Selected) (c : Collected) → Stable (collectSelected T open' object row s c)
+    selected-stable : (row : ℕ) (s : Selected) (c : Collected) → Stable (collectSelected types members sets selections fragments variables nodes open' object row s c)
     unfolding collectSelected
     selected-stable row (selected.Field f) c = field-collected (f .key) row c
     selected-stable row (selected.Spread n) c = spread-stable n c
     selected-stable row (selected.Inline type set) c = search stable
     selected-stable row selected.Unknown c = search stable
 
-    fields-collected : (rows : List ℕ) (c : Collected) → Stable (collectFields T open' object rows c)
+    fields-collected : (rows : List ℕ) (c : Collected) → Stable (collectFields types members sets selections fragments variables nodes open' object rows c)
     unfolding collectFields
     fields-collected [] c = search stable
     fields-collected (row ∷ rest) c = stable-bind (search (stable, selected-stable)) (λ d. fields-collected rest d)
 
-  within-stable : (room object set : ℕ) (c : Collected) → Stable (collectWithin T room object set c)
+  within-stable : (room object set : ℕ) (c : Collected) → Stable (collectWithin types members sets selections fragments variables nodes room object set c)
   unfolding collectWithin
   within-stable zero object set c = search stable
   within-stable (suc room) object set c = fields-collected (within-stable room) object _ c
 
-  pub collect-stable : (object : ℕ) (rows : List ℕ) → Stable (collect T object rows)
+  pub collect-stable : (object : ℕ) (rows : List ℕ) → Stable (collect types members sets selections fragments variables nodes object rows)
   unfolding collect
   collect-stable object rows = stable-bind (fields-collected (within-stable 32) object rows _) (λ c. stable-pure _)
 
-  -- ---- Coerce
+-- ---- Values
 
-  abbrev Parts : Option (ℕ → M Json) → Type 0
-  Parts = IfThere (λ (f : ℕ → M Json). (row : ℕ) → Stable (f row))
+opened-stable : {A : Type 0} (room : ℕ) {m : M A} → Stable m → Stable (opened room m)
+unfolding opened
+opened-stable zero h = search stable
+opened-stable (suc room) h = h
 
-  abbrev PartsAt : Option (ℕ → ℕ → M Json) → Type 0
-  PartsAt = IfThere (λ (f : ℕ → ℕ → M Json). (ty row : ℕ) → Stable (f ty row))
-
-  array-stable : {inside : Option (ℕ → M Json)} → Parts inside → (rows : List ℕ) → Stable (arrayOf T inside rows)
+module _ (room : ℕ) {inside : ℕ → M Json} (h : (row : ℕ) → Stable (inside row)) where
+  array-stable : (rows : List ℕ) → Stable (arrayOf room inside rows)
   unfolding arrayOf
-  array-stable not-there rows = search stable
-  array-stable (there h) rows = search stable
+  array-stable rows = search (stable, opened-stable)
 
-  object-stable : {inside : Option (ℕ → M Json)} → Parts inside → (key : ℕ → List ℕ) (rows : List ℕ) → Stable (objectOf T inside key rows)
+  object-stable : (key : ℕ → List ℕ) (rows : List ℕ) → Stable (objectOf room inside key rows)
   unfolding objectOf
-  object-stable not-there key rows = search stable
-  object-stable (there h) key rows = search stable
+  object-stable key rows = search (stable, opened-stable)
 
-  node-stable : {inside : Option (ℕ → M Json)} → Parts inside → (n : Node) → Stable (valueOf T inside n)
+  node-stable : (pool nodes : List ℕ) (n : Node) → Stable (valueOf pool nodes room inside n)
   unfolding valueOf
-  node-stable h node.Null = search stable
-  node-stable h node.False = search stable
-  node-stable h node.True = search stable
-  node-stable h (node.Natural low high) = search stable
-  node-stable h (node.Negative low high) = search stable
-  node-stable h (node.Float text) = search stable
-  node-stable h (node.String text) = search stable
-  node-stable h (node.Array rows) = array-stable h _
-  node-stable h (node.Object rows) = object-stable h _ _
-  node-stable h node.Unknown = search stable
+  node-stable pool nodes node.Null = search stable
+  node-stable pool nodes node.False = search stable
+  node-stable pool nodes node.True = search stable
+  node-stable pool nodes (node.Natural low high) = search stable
+  node-stable pool nodes (node.Negative low high) = search stable
+  node-stable pool nodes (node.Float text) = search stable
+  node-stable pool nodes (node.String text) = search stable
+  node-stable pool nodes (node.Array rows) = array-stable _
+  node-stable pool nodes (node.Object rows) = object-stable _ _
+  node-stable pool nodes node.Unknown = search stable
 
-  pub nodeValue-stable : (room row : ℕ) → Stable (nodeValue T room row)
-  unfolding nodeValue
-  nodeValue-stable zero row = node-stable not-there _
-  nodeValue-stable (suc room) row = node-stable (there (nodeValue-stable room)) _
-
-  variable-stable : (row : ℕ) → Stable (variableValue T row)
-  unfolding variableValue
-  variable-stable row = nodeValue-stable _ _
-
-  parts-stable : {inside : Option (ℕ → M Json)} → Parts inside → (l : Literal) → Stable (partsOf T inside l)
+  parts-stable : (pool names literals : List ℕ) (l : Literal) → Stable (partsOf pool names literals room inside l)
   unfolding partsOf
-  parts-stable h literal.Null = search stable
-  parts-stable h literal.False = search stable
-  parts-stable h literal.True = search stable
-  parts-stable h (literal.Natural n) = search stable
-  parts-stable h (literal.Negative m) = search stable
-  parts-stable h (literal.Float text) = search stable
-  parts-stable h (literal.String text) = search stable
-  parts-stable h (literal.List rows) = array-stable h _
-  parts-stable h (literal.Object rows) = object-stable h _ _
-  parts-stable h (literal.Enum name) = search stable
-  parts-stable h (literal.Variable name) = search stable
-  parts-stable h literal.Unknown = search stable
+  parts-stable pool names literals literal.Null = search stable
+  parts-stable pool names literals literal.False = search stable
+  parts-stable pool names literals literal.True = search stable
+  parts-stable pool names literals (literal.Natural n) = search stable
+  parts-stable pool names literals (literal.Negative m) = search stable
+  parts-stable pool names literals (literal.Float text) = search stable
+  parts-stable pool names literals (literal.String text) = search stable
+  parts-stable pool names literals (literal.List rows) = array-stable _
+  parts-stable pool names literals (literal.Object rows) = object-stable _ _
+  parts-stable pool names literals (literal.Enum name) = search stable
+  parts-stable pool names literals (literal.Variable name) = search stable
+  parts-stable pool names literals literal.Unknown = search stable
 
-  partByPart-stable : (room row : ℕ) → Stable (partByPart T room row)
-  unfolding partByPart
-  partByPart-stable zero row = parts-stable not-there _
-  partByPart-stable (suc room) row = parts-stable (there (partByPart-stable room)) _
+pub nodeValue-stable : (pool nodes : List ℕ) (room row : ℕ) → Stable (nodeValue pool nodes room row)
+unfolding nodeValue
+nodeValue-stable pool nodes zero row = node-stable zero (λ part. stable-halt _ depth-refused) pool nodes _
+nodeValue-stable pool nodes (suc room) row = node-stable (suc room) (nodeValue-stable pool nodes room) pool nodes _
 
-  failAt-stable : {A : Type 0} (code row : ℕ) (p : Path) → Stable {A = A} (failAt T code row p)
+variable-stable : (pool nodes variables : List ℕ) (v : ℕ) → Stable (variableValue pool nodes variables v)
+unfolding variableValue
+variable-stable pool nodes variables v = nodeValue-stable pool nodes _ _
+
+partByPart-stable : (pool names literals : List ℕ) (room row : ℕ) → Stable (partByPart pool names literals room row)
+unfolding partByPart
+partByPart-stable pool names literals zero row = parts-stable zero (λ part. stable-halt _ depth-refused) pool names literals _
+partByPart-stable pool names literals (suc room) row = parts-stable (suc room) (partByPart-stable pool names literals room) pool names literals _
+
+-- ---- Coerce
+
+module _ (pool names refs types fields nodes literals variables : List ℕ) where
+  failAt-stable : {A : Type 0} (e : FieldError) (row : ℕ) (p : Path) → Stable {A = A} (failAt pool names refs types fields nodes literals variables e row p)
   unfolding failAt
-  failAt-stable code row p = search stable
+  failAt-stable e row p = search stable
 
-  coerceVariable-stable : (p : Path) (ty row : ℕ) (v : Option ℕ) → Stable (coerceVariable T p ty row v)
+  coerceVariable-stable : (p : Path) (ty row : ℕ) (v : Option ℕ) → Stable (coerceVariable pool names refs types fields nodes literals variables p ty row v)
   unfolding coerceVariable
   coerceVariable-stable p ty row none = search (stable, failAt-stable)
   coerceVariable-stable p ty row (some v) = search (stable, failAt-stable, variable-stable)
 
-  coerceItems-stable : {inside : Option (ℕ → ℕ → M Json)} → PartsAt inside → (inner : ℕ) (rows : List ℕ) → Stable (coerceItems T inside inner rows)
-  unfolding coerceItems
-  coerceItems-stable not-there inner rows = search stable
-  coerceItems-stable (there h) inner rows = search stable
+  module _ (room : ℕ) {inside : ℕ → ℕ → M Json} (h : (ty row : ℕ) → Stable (inside ty row)) (p : Path) where
+    coerceItems-stable : (inner : ℕ) (rows : List ℕ) → Stable (coerceItems pool names refs types fields nodes literals variables room inside p inner rows)
+    unfolding coerceItems
+    coerceItems-stable inner rows = search (stable, opened-stable)
 
-  inputField-stable : {inside : ℕ → ℕ → M Json} {parts : ℕ → M Json} → ((ty row : ℕ) → Stable (inside ty row)) → ((row : ℕ) → Stable (parts row))
-      → (p : Path) (row f : ℕ) (given : Option ℕ) (default : Optional) → Stable (inputField T inside parts p row f given default)
-  unfolding inputField
-  inputField-stable h k p row f (some given) default = search stable
-  inputField-stable h k p row f none (optional.Row default) = search stable
-  inputField-stable h k p row f none optional.Absent = search (stable, failAt-stable)
+    inputField-stable : (row f : ℕ) (given : Option ℕ) (default : Optional)
+        → Stable (inputField pool names refs types fields nodes literals variables room inside p row f given default)
+    unfolding inputField
+    inputField-stable row f (some given) default = search stable
+    inputField-stable row f none (optional.Row default) = search (stable, partByPart-stable)
+    inputField-stable row f none optional.Absent = search (stable, failAt-stable)
 
-  module _ {inside : Option (ℕ → ℕ → M Json)} {parts : Option (ℕ → M Json)} (h : PartsAt inside) (k : Parts parts) (p : Path) (row : ℕ) where
-    inputFields-stable : (type : ℕ) (given : List ℕ) → Stable (inputFields T inside parts p row type given)
+    inputFields-stable : (row : ℕ) (given declared : List ℕ)
+        → Stable (inputFields pool names refs types fields nodes literals variables room inside p row given declared)
     unfolding inputFields
-    inputFields-stable type given = elim h [
-      | not-there ↦ stable-halt _ depth-refused
-      | there l ↦ elim k [
-        | not-there ↦ stable-halt _ depth-refused
-        | there g ↦ stable-bind (stable-inOrder (λ f. inputField-stable l g p row f _ _) _) (λ vs. stable-pure _)
-      ]
-    ]
+    inputFields-stable row given declared =
+        opened-stable room (stable-bind (stable-inOrder (λ f. inputField-stable row f _ _) declared) (λ js. stable-pure _))
 
-    inputObject-stable : (type : ℕ) (given : Option (List ℕ)) → Stable (inputObject T inside parts p row type given)
+    known-stable : (type row : ℕ) (given : List ℕ) (key : Option ℕ)
+        → Stable (knownObject pool names refs types fields nodes literals variables room inside p type row given key)
+    unfolding knownObject
+    known-stable type row given (some key) = search failAt-stable
+    known-stable type row given none = inputFields-stable row given _
+
+    inputObject-stable : (type row : ℕ) (shape : Shape)
+        → Stable (inputObject pool names refs types fields nodes literals variables room inside p type row shape)
     unfolding inputObject
-    inputObject-stable type none = search failAt-stable
-    inputObject-stable type (some given) = search (stable, failAt-stable, inputFields-stable)
+    inputObject-stable type row single = search failAt-stable
+    inputObject-stable type row (listed rows) = search failAt-stable
+    inputObject-stable type row (keyed rows) = known-stable type row _ _
 
-    coerceAt-stable : (type : ℕ) (l : Literal) (t : TypeKind) → Stable (coerceAt T inside parts p row type l t)
-    unfolding coerceAt
-    coerceAt-stable type l kind.Scalar = parts-stable k l
-    coerceAt-stable type l kind.Enum = parts-stable k l
-    coerceAt-stable type l kind.Object = parts-stable k l
-    coerceAt-stable type l kind.Interface = parts-stable k l
-    coerceAt-stable type l kind.Union = parts-stable k l
-    coerceAt-stable type l kind.InputObject = inputObject-stable type _
-    coerceAt-stable type l kind.Unknown = parts-stable k l
-
-    coerceNamed-stable : (l : Literal) (type : Option ℕ) → Stable (coerceNamed T inside parts p row l type)
+    coerceNamed-stable : (row : ℕ) (shape : Shape) (type : Option ℕ)
+        → Stable (coerceNamed pool names refs types fields nodes literals variables room inside p row shape type)
     unfolding coerceNamed
-    coerceNamed-stable l none = search failAt-stable
-    coerceNamed-stable l (some type) = coerceAt-stable type l _
+    coerceNamed-stable row shape none = search failAt-stable
+    coerceNamed-stable row shape (some type) = search (stable, inputObject-stable, partByPart-stable)
 
-    coerceBy-stable : (l : Literal) (t : TypeRef) → Stable (coerceBy T inside parts p row l t)
-    unfolding coerceBy
-    coerceBy-stable l (ref.Named name nullable) = coerceNamed-stable l _
-    coerceBy-stable l (ref.ListOf inner nullable) = coerceItems-stable h inner _
-    coerceBy-stable l ref.Unknown = search failAt-stable
+    coerceShape-stable : (row : ℕ) (shape : Shape) (t : TypeRef)
+        → Stable (coerceShape pool names refs types fields nodes literals variables room inside p row shape t)
+    unfolding coerceShape
+    coerceShape-stable row shape (ref.Named name nullable) = coerceNamed-stable row shape _
+    coerceShape-stable row shape (ref.ListOf inner nullable) = coerceItems-stable inner _
+    coerceShape-stable row shape ref.Unknown = search failAt-stable
 
-    coerceLiteral-stable : (ty : ℕ) (l : Literal) → Stable (coerceLiteral T inside parts p ty row l)
+    coerceLiteral-stable : (ty row : ℕ) (l : LiteralForm)
+        → Stable (coerceLiteral pool names refs types fields nodes literals variables room inside p ty row l)
     unfolding coerceLiteral
-    coerceLiteral-stable ty literal.Null = search (stable, failAt-stable)
-    coerceLiteral-stable ty literal.False = coerceBy-stable _ _
-    coerceLiteral-stable ty literal.True = coerceBy-stable _ _
-    coerceLiteral-stable ty (literal.Natural n) = coerceBy-stable _ _
-    coerceLiteral-stable ty (literal.Negative m) = coerceBy-stable _ _
-    coerceLiteral-stable ty (literal.Float text) = coerceBy-stable _ _
-    coerceLiteral-stable ty (literal.String text) = coerceBy-stable _ _
-    coerceLiteral-stable ty (literal.List rows) = coerceBy-stable _ _
-    coerceLiteral-stable ty (literal.Object rows) = coerceBy-stable _ _
-    coerceLiteral-stable ty (literal.Enum name) = coerceBy-stable _ _
-    coerceLiteral-stable ty (literal.Variable name) = coerceVariable-stable p ty row _
-    coerceLiteral-stable ty literal.Unknown = coerceBy-stable _ _
+    coerceLiteral-stable ty row nothing = search (stable, failAt-stable)
+    coerceLiteral-stable ty row (variable name) = coerceVariable-stable p ty row _
+    coerceLiteral-stable ty row (shaped shape) = coerceShape-stable row shape _
 
-  coerceValue-stable : (room : ℕ) (p : Path) (ty row : ℕ) → Stable (coerceValue T room p ty row)
-  unfolding coerceValue
-  coerceValue-stable zero p ty row = coerceLiteral-stable not-there not-there p row ty _
-  coerceValue-stable (suc room) p ty row = coerceLiteral-stable (there (coerceValue-stable room p)) (there (partByPart-stable room)) p row ty _
+  value-coerced : (room : ℕ) (p : Path) (ty row : ℕ) → Stable (coerceArgumentValue pool names refs types fields nodes literals variables room p ty row)
+  unfolding coerceArgumentValue
+  value-coerced zero p ty row = coerceLiteral-stable zero (λ ty' row'. stable-halt _ depth-refused) p ty row _
+  value-coerced (suc room) p ty row = coerceLiteral-stable (suc room) (value-coerced room p) p ty row _
 
-  defaultArgument-stable : (p : Path) (argument : ℕ) (default : Optional) → Stable (defaultArgument T p argument default)
-  unfolding defaultArgument
-  defaultArgument-stable p argument (optional.Row default) = search (stable, partByPart-stable)
-  defaultArgument-stable p argument optional.Absent = search stable
+  module _ (arguments given : List ℕ) where
+    argumentError-stable : {A : Type 0} (e : FieldError) (p : Path) (argument : ℕ)
+        → Stable {A = A} (argumentError pool names refs types fields nodes literals variables arguments given e p argument)
+    unfolding argumentError
+    argumentError-stable e p argument = search stable
 
-  nullFor-stable : {A : Type 0} (p : Path) (argument : ℕ) → Stable {A = A} (nullFor T p argument)
-  unfolding nullFor
-  nullFor-stable p argument = search stable
+    valued-stable : (argument : ℕ) {m : M Json} → Stable m → Stable (valued pool names refs types fields nodes literals variables arguments given argument m)
+    unfolding valued
+    valued-stable argument h = search stable
 
-  variableArgument-stable : (p : Path) (argument : ℕ) (v : Option ℕ) → Stable (variableArgument T p argument v)
-  unfolding variableArgument
-  variableArgument-stable p argument none = defaultArgument-stable p argument _
-  variableArgument-stable p argument (some v) = search (stable, nullFor-stable, variable-stable)
+    default-stable : (p : Path) (argument : ℕ) (default : Optional)
+        → Stable (defaultArgument pool names refs types fields nodes literals variables arguments given p argument default)
+    unfolding defaultArgument
+    default-stable p argument (optional.Row default) = valued-stable argument (partByPart-stable pool names literals 32 default)
+    default-stable p argument optional.Absent = search (stable, argumentError-stable)
 
-  literalArgument-stable : (p : Path) (argument row : ℕ) → Stable (literalArgument T p argument row)
-  unfolding literalArgument
-  literalArgument-stable p argument row = search (stable, coerceValue-stable)
+    variableArgument-stable : (p : Path) (argument : ℕ) (v : Option ℕ)
+        → Stable (variableArgument pool names refs types fields nodes literals variables arguments given p argument v)
+    unfolding variableArgument
+    variableArgument-stable p argument none = default-stable p argument _
+    variableArgument-stable p argument (some v) = search (stable, argumentError-stable, valued-stable, variable-stable)
 
-  givenArgument-stable : (p : Path) (argument row : ℕ) (l : Literal) → Stable (givenArgument T p argument row l)
-  unfolding givenArgument
-  givenArgument-stable p argument row literal.Null = search (stable, nullFor-stable, literalArgument-stable)
-  givenArgument-stable p argument row literal.False = literalArgument-stable p argument row
-  givenArgument-stable p argument row literal.True = literalArgument-stable p argument row
-  givenArgument-stable p argument row (literal.Natural n) = literalArgument-stable p argument row
-  givenArgument-stable p argument row (literal.Negative m) = literalArgument-stable p argument row
-  givenArgument-stable p argument row (literal.Float text) = literalArgument-stable p argument row
-  givenArgument-stable p argument row (literal.String text) = literalArgument-stable p argument row
-  givenArgument-stable p argument row (literal.List rows) = literalArgument-stable p argument row
-  givenArgument-stable p argument row (literal.Object rows) = literalArgument-stable p argument row
-  givenArgument-stable p argument row (literal.Enum name) = literalArgument-stable p argument row
-  givenArgument-stable p argument row (literal.Variable name) = variableArgument-stable p argument _
-  givenArgument-stable p argument row literal.Unknown = literalArgument-stable p argument row
+    literalArgument-stable : (p : Path) (argument row : ℕ)
+        → Stable (literalArgument pool names refs types fields nodes literals variables arguments given p argument row)
+    unfolding literalArgument
+    literalArgument-stable p argument row = valued-stable argument (value-coerced 32 p _ row)
 
-  coerceArgument-stable : (p : Path) (argument : ℕ) (given : Option ℕ) → Stable (coerceArgument T p argument given)
-  unfolding coerceArgument
-  coerceArgument-stable p argument none = defaultArgument-stable p argument _
-  coerceArgument-stable p argument (some given) = givenArgument-stable p argument _ _
+    givenArgument-stable : (p : Path) (argument row : ℕ) (l : LiteralForm)
+        → Stable (givenArgument pool names refs types fields nodes literals variables arguments given p argument row l)
+    unfolding givenArgument
+    givenArgument-stable p argument row nothing = search (stable, argumentError-stable, literalArgument-stable)
+    givenArgument-stable p argument row (variable name) = variableArgument-stable p argument _
+    givenArgument-stable p argument row (shaped shape) = literalArgument-stable p argument row
 
-  pub arguments-stable : (p : Path) (definitions given : Range) → Stable (coerceArgumentValues T p definitions given)
-  unfolding coerceArgumentValues
-  arguments-stable p definitions given = stable-bind (stable-inOrder (λ argument. coerceArgument-stable p argument _) _) (λ each. stable-pure _)
+    coerceArgument-stable : (p : Path) (argument : ℕ) (g : Option ℕ)
+        → Stable (coerceArgument pool names refs types fields nodes literals variables arguments given p argument g)
+    unfolding coerceArgument
+    coerceArgument-stable p argument none = default-stable p argument _
+    coerceArgument-stable p argument (some g) = givenArgument-stable p argument _ _
 
-  -- ---- Complete
+    arguments-coerced : (p : Path) (definitions written : Range)
+        → Stable (coerceArgumentValues pool names refs types fields nodes literals variables arguments given p definitions written)
+    unfolding coerceArgumentValues
+    arguments-coerced p definitions written = stable-bind (stable-inOrder (λ argument. coerceArgument-stable p argument _) _) (λ each. stable-pure _)
 
-  fieldError-stable : {A : Type 0} (code : ℕ) (g : Group) (p : Path) → Stable {A = A} (fieldError T code g p)
+-- ---- Complete
+
+tryNullify-stable : (b : Bool) {m : M Val} → Stable m → Stable (tryNullify b m)
+unfolding tryNullify
+tryNullify-stable true k = k
+tryNullify-stable false k = search stable
+
+module _ (Q : Request) where
+  fieldError-stable : {A : Type 0} (e : FieldError) (g : Group) (p : Path) → Stable {A = A} (fieldError Q e g p)
   unfolding fieldError
-  fieldError-stable code g p = search stable
+  fieldError-stable e g p = search stable
 
-  nullUnless-stable : (b : Bool) {m : M Val} → Stable m → Stable (nullUnless T b m)
-  unfolding nullUnless
-  nullUnless-stable true k = k
-  nullUnless-stable false k = search stable
+  arguments-stable : (p : Path) (definitions written : Range) → Stable (coerceArguments Q p definitions written)
+  unfolding coerceArguments
+  arguments-stable p definitions written = arguments-coerced _ _ _ _ _ _ _ _ _ _ p definitions written
 
-  echoed-stable : (j : Option Json) → Stable (echoed T j)
+  echoed-stable : (n : ℕ) (j : Option Json) → Stable (echoed Q n j)
   unfolding echoed
-  echoed-stable none = search stable
-  echoed-stable (some j) = search stable
+  echoed-stable n none = search stable
+  echoed-stable n (some j) = search stable
 
-  take-stable : (args : Arguments) (a : Answer) (row : ℕ) → Stable (take T args a row)
-  unfolding take
-  take-stable args answer.Skip row = search stable
-  take-stable args answer.Error row = search stable
-  take-stable args (answer.Leaf node) row = search (stable, nodeValue-stable)
-  take-stable args (answer.List rows) row = search stable
-  take-stable args (answer.Object type fields) row = search stable
-  take-stable args (answer.Echo n) row = echoed-stable _
-  take-stable args answer.Unknown row = search stable
+  resolved-stable : (args : Arguments) (row : ℕ) (a : Answer) → Stable (resolved Q args row a)
+  unfolding resolved
+  resolved-stable args row answer.Skip = search stable
+  resolved-stable args row answer.Error = search stable
+  resolved-stable args row (answer.Leaf node) = search (stable, nodeValue-stable)
+  resolved-stable args row (answer.List rows) = search stable
+  resolved-stable args row (answer.Object n parts) = search stable
+  resolved-stable args row (answer.Echo n) = echoed-stable n _
+  resolved-stable args row answer.Unknown = search stable
 
-  takeAnswer-stable : (args : Arguments) (row : Option ℕ) → Stable (takeAnswer T args row)
-  unfolding takeAnswer
-  takeAnswer-stable args none = search stable
-  takeAnswer-stable args (some row) = take-stable args _ row
+  answered-stable : (args : Arguments) (row : Option ℕ) → Stable (answered Q args row)
+  unfolding answered
+  answered-stable args none = search stable
+  answered-stable args (some row) = resolved-stable args row _
 
-  leafIf-stable : (b : Bool) (j : Json) (g : Group) (p : Path) → Stable (leafIf T b j g p)
-  unfolding leafIf
-  leafIf-stable b j g p = search (stable, fieldError-stable)
+  field-resolved : (parent n : ℕ) (args : Arguments) → Stable (resolveFieldValue Q parent n args)
+  unfolding resolveFieldValue
+  field-resolved parent n args = answered-stable args _
 
-  intLeaf-stable : (w : Whole) (j : Json) (g : Group) (p : Path) → Stable (intLeaf T w j g p)
-  unfolding intLeaf
-  intLeaf-stable fits j g p = search stable
-  intLeaf-stable overflows j g p = search fieldError-stable
-  intLeaf-stable other j g p = search fieldError-stable
+  typeDefined-stable : (type : Option ℕ) (g : Group) (p : Path) → Stable (typeDefined Q type g p)
+  unfolding typeDefined
+  typeDefined-stable none g p = search fieldError-stable
+  typeDefined-stable (some type) g p = search stable
 
-  scalarLeaf-stable : (n : ℕ) (j : Json) (g : Group) (p : Path) → Stable (scalarLeaf T n j g p)
+  namedType-stable : (t : TypeRef) (g : Group) (p : Path) → Stable (namedType Q t g p)
+  unfolding namedType
+  namedType-stable (ref.Named n nullable) g p = typeDefined-stable _ g p
+  namedType-stable (ref.ListOf inner nullable) g p = search fieldError-stable
+  namedType-stable ref.Unknown g p = search fieldError-stable
+
+  scalarLeaf-stable : (n : ℕ) (l : Leaf) (g : Group) (p : Path) → Stable (scalarLeaf Q n l g p)
   unfolding scalarLeaf
-  scalarLeaf-stable n j g p = search (stable, intLeaf-stable, leafIf-stable) depth 8
+  scalarLeaf-stable n l g p = search (stable, fieldError-stable)
 
-  enumLeaf-stable : (type : ℕ) (s : Option (List ℕ)) (j : Json) (g : Group) (p : Path) → Stable (enumLeaf T type s j g p)
+  enumLeaf-stable : (type : ℕ) (l : Leaf) (s : Option (List ℕ)) (g : Group) (p : Path) → Stable (enumLeaf Q type l s g p)
   unfolding enumLeaf
-  enumLeaf-stable type none j g p = search fieldError-stable
-  enumLeaf-stable type (some s) j g p = search (stable, fieldError-stable)
+  enumLeaf-stable type l none g p = search fieldError-stable
+  enumLeaf-stable type l (some s) g p = search (stable, fieldError-stable)
 
-  completeLeaf-stable : (type : ℕ) (k : TypeKind) (j : Json) (g : Group) (p : Path) → Stable (completeLeaf T type k j g p)
-  unfolding completeLeaf
-  completeLeaf-stable type kind.Scalar j g p = scalarLeaf-stable _ j g p
-  completeLeaf-stable type kind.Enum j g p = enumLeaf-stable type _ j g p
-  completeLeaf-stable type kind.Object j g p = search fieldError-stable
-  completeLeaf-stable type kind.Interface j g p = search fieldError-stable
-  completeLeaf-stable type kind.Union j g p = search fieldError-stable
-  completeLeaf-stable type kind.InputObject j g p = search fieldError-stable
-  completeLeaf-stable type kind.Unknown j g p = search fieldError-stable
+  leafAt-stable : (type : ℕ) (k : TypeKind) (l : Leaf) (g : Group) (p : Path) → Stable (leafAt Q type k l g p)
+  unfolding leafAt
+  leafAt-stable type kind.Scalar l g p = scalarLeaf-stable _ l g p
+  leafAt-stable type kind.Enum l g p = enumLeaf-stable type l _ g p
+  leafAt-stable type kind.Object l g p = search fieldError-stable
+  leafAt-stable type kind.Interface l g p = search fieldError-stable
+  leafAt-stable type kind.Union l g p = search fieldError-stable
+  leafAt-stable type kind.InputObject l g p = search fieldError-stable
+  leafAt-stable type kind.Unknown l g p = search fieldError-stable
 
-  asMember-stable : (union : ℕ) (type : Option ℕ) (n : ℕ) (g : Group) (p : Path) → Stable (asMember T union type n g p)
-  unfolding asMember
-  asMember-stable union none n g p = search fieldError-stable
-  asMember-stable union (some type) n g p = search (stable, fieldError-stable)
+  leaf-stable : (ty : ℕ) (l : Leaf) (g : Group) (p : Path) → Stable (completeLeafValue Q ty l g p)
+  unfolding completeLeafValue
+  leaf-stable ty l g p = search (stable, fieldError-stable, namedType-stable, leafAt-stable)
 
-  asImplementer-stable : (interface : ℕ) (type : Option ℕ) (n : ℕ) (g : Group) (p : Path) → Stable (asImplementer T interface type n g p)
-  unfolding asImplementer
-  asImplementer-stable interface none n g p = search fieldError-stable
-  asImplementer-stable interface (some type) n g p = search (stable, fieldError-stable)
+  abstract-stable : (possible : ℕ → Bool) (e : FieldError) (type : Option ℕ) (g : Group) (p : Path) → Stable (resolveAbstractType Q possible e type g p)
+  unfolding resolveAbstractType
+  abstract-stable possible e none g p = search fieldError-stable
+  abstract-stable possible e (some type) g p = search (stable, fieldError-stable)
 
-  objectType-stable : (type : ℕ) (k : TypeKind) (n : ℕ) (g : Group) (p : Path) → Stable (objectType T type k n g p)
+  objectType-stable : (type : ℕ) (k : TypeKind) (n : ℕ) (g : Group) (p : Path) → Stable (objectType Q type k n g p)
   unfolding objectType
   objectType-stable type kind.Scalar n g p = search fieldError-stable
   objectType-stable type kind.Enum n g p = search fieldError-stable
   objectType-stable type kind.Object n g p = search (stable, fieldError-stable)
-  objectType-stable type kind.Interface n g p = asImplementer-stable type _ n g p
-  objectType-stable type kind.Union n g p = asMember-stable type _ n g p
+  objectType-stable type kind.Interface n g p = abstract-stable _ _ _ g p
+  objectType-stable type kind.Union n g p = abstract-stable _ _ _ g p
   objectType-stable type kind.InputObject n g p = search fieldError-stable
   objectType-stable type kind.Unknown n g p = search fieldError-stable
 
   module _ {rec : Task → Path → M Val} (h : (t : Task) (p : Path) → Stable (rec t p)) where
-    group-stable : (type answer : ℕ) (p : Path) (g : Group) (d : Option Definition) → Stable (executeGroup T rec type answer p g d)
+    group-stable : (type answer : ℕ) (p : Path) (g : Group) (d : Option Definition) → Stable (executeGroup Q rec type answer p g d)
     unfolding executeGroup
     group-stable type answer p g none = search stable
     group-stable type answer p g (some d) = h _ _
 
-    set-stable : (type answer : ℕ) (selections : List ℕ) (p : Path) → Stable (executeSelectionSet T rec type answer selections p)
+    set-stable : (type answer : ℕ) (selections : List ℕ) (p : Path) → Stable (executeSelectionSet Q rec type answer selections p)
     unfolding executeSelectionSet
     set-stable type answer selections p = search (stable, collect-stable, group-stable)
 
-    listAt-stable : (nullable : Bool) (inner : ℕ) (rows : List ℕ) (g : Group) (args : Arguments) (p : Path) → Stable (completeListAt T rec nullable inner rows g args p)
-    unfolding completeListAt
-    listAt-stable nullable inner rows g args p = search (stable, nullUnless-stable)
+    object-value-stable : (ty n answer : ℕ) (g : Group) (p : Path) → Stable (completeObjectValue Q rec ty n answer g p)
+    unfolding completeObjectValue
+    object-value-stable ty n answer g p = search (stable, namedType-stable, objectType-stable, set-stable)
 
-    listValue-stable : (t : TypeRef) (rows : List ℕ) (g : Group) (args : Arguments) (p : Path) → Stable (completeListValue T rec t rows g args p)
+    items-stable : (nullable : Bool) (inner : ℕ) (rows : List ℕ) (g : Group) (args : Arguments) (p : Path) → Stable (completeItems Q rec nullable inner rows g args p)
+    unfolding completeItems
+    items-stable nullable inner rows g args p = search (stable, tryNullify-stable)
+
+    list-stable : (t : TypeRef) (rows : List ℕ) (g : Group) (args : Arguments) (p : Path) → Stable (completeListValue Q rec t rows g args p)
     unfolding completeListValue
-    listValue-stable (ref.Named n nullable) rows g args p = search fieldError-stable
-    listValue-stable (ref.ListOf inner nullable) rows g args p = listAt-stable nullable inner rows g args p
-    listValue-stable ref.Unknown rows g args p = search fieldError-stable
+    list-stable (ref.Named n nullable) rows g args p = search fieldError-stable
+    list-stable (ref.ListOf inner nullable) rows g args p = items-stable nullable inner rows g args p
+    list-stable ref.Unknown rows g args p = search fieldError-stable
 
-    completeObject-stable : (type : ℕ) (k : TypeKind) (answer : ℕ) (g : Group) (p : Path) → Stable (completeObject T rec type k answer g p)
-    unfolding completeObject
-    completeObject-stable type k answer g p = search (stable, objectType-stable, set-stable)
-
-    named-stable : (type : Option ℕ) (r : Resolved) (g : Group) (p : Path) → Stable (completeNamed T rec type r g p)
-    unfolding completeNamed
-    named-stable none r g p = search fieldError-stable
-    named-stable (some type) skip g p = search stable
-    named-stable (some type) error g p = search fieldError-stable
-    named-stable (some type) (leaf j) g p = completeLeaf-stable type _ j g p
-    named-stable (some type) (list rows) g p = search fieldError-stable
-    named-stable (some type) (object' row) g p = completeObject-stable type _ row g p
-
-    single-stable : (t : TypeRef) (r : Resolved) (g : Group) (p : Path) → Stable (completeSingle T rec t r g p)
-    unfolding completeSingle
-    single-stable (ref.Named n nullable) r g p = named-stable _ r g p
-    single-stable (ref.ListOf inner nullable) r g p = search fieldError-stable
-    single-stable ref.Unknown r g p = search fieldError-stable
-
-    leafAt-stable : (ty : ℕ) (j : Json) (g : Group) (p : Path) → Stable (completeLeafAt T rec ty j g p)
-    unfolding completeLeafAt
-    leafAt-stable ty j g p = search (stable, fieldError-stable, single-stable)
-
-    value-stable : (ty : ℕ) (r : Resolved) (g : Group) (args : Arguments) (p : Path) → Stable (completeValue T rec ty r g args p)
+    value-stable : (ty : ℕ) (r : Resolved) (g : Group) (args : Arguments) (p : Path) → Stable (completeValue Q rec ty r g args p)
     unfolding completeValue
-    value-stable ty skip g args p = search stable
-    value-stable ty error g args p = search fieldError-stable
-    value-stable ty (leaf j) g args p = leafAt-stable ty j g p
-    value-stable ty (list rows) g args p = listValue-stable _ rows g args p
-    value-stable ty (object' row) g args p = single-stable _ _ g p
+    value-stable ty aSkip g args p = search stable
+    value-stable ty anError g args p = search fieldError-stable
+    value-stable ty (aLeaf l) g args p = leaf-stable ty l g p
+    value-stable ty (aList rows) g args p = list-stable _ rows g args p
+    value-stable ty (anObject n row) g args p = object-value-stable ty n row g p
 
-    kept-stable : (v : Val) (p : Path) → Stable (kept T v p)
-    unfolding kept
-    kept-stable absent p = search stable
-    kept-stable (val j) p = search stable
-
-    item-stable : (ty : ℕ) (r : Resolved) (g : Group) (args : Arguments) (p : Path) → Stable (completeItem T rec ty r g args p)
+    item-stable : (ty : ℕ) (r : Resolved) (g : Group) (args : Arguments) (p : Path) → Stable (completeItem Q rec ty r g args p)
     unfolding completeItem
-    item-stable ty skip g args p = kept-stable absent p
-    item-stable ty error g args p = search stable
-    item-stable ty (leaf j) g args p = nullUnless-stable _ (value-stable ty (leaf j) g args p)
-    item-stable ty (list rows) g args p = nullUnless-stable _ (value-stable ty (list rows) g args p)
-    item-stable ty (object' row) g args p = nullUnless-stable _ (value-stable ty (object' row) g args p)
+    item-stable ty aSkip g args p = search stable
+    item-stable ty anError g args p = search stable
+    item-stable ty (aLeaf l) g args p = tryNullify-stable _ (value-stable ty (aLeaf l) g args p)
+    item-stable ty (aList rows) g args p = tryNullify-stable _ (value-stable ty (aList rows) g args p)
+    item-stable ty (anObject n row) g args p = tryNullify-stable _ (value-stable ty (anObject n row) g args p)
 
-    typename-stable : (type : ℕ) (g : Group) (p : Path) → Stable (executeTypename T rec type g p)
-    unfolding executeTypename
-    typename-stable type g p = search value-stable
-
-    defined-stable : (f answer : ℕ) (g : Group) (given : Range) (p : Path) → Stable (executeDefined T rec f answer g given p)
-    unfolding executeDefined
-    defined-stable f answer g given p = search (stable, nullUnless-stable, arguments-stable, takeAnswer-stable, value-stable)
-
-    field-stable : (type answer : ℕ) (g : Group) (d : Option Definition) (p : Path) → Stable (executeField T rec type answer g d p)
+    field-stable : (type answer : ℕ) (g : Group) (d : Definition) (p : Path) → Stable (executeField Q rec type answer g d p)
     unfolding executeField
-    field-stable type answer g none p = search stable
-    field-stable type answer g (some typename) p = typename-stable type g p
-    field-stable type answer g (some (defined f)) p = defined-stable f answer g _ p
+    field-stable type answer g typename p = search value-stable
+    field-stable type answer g (defined f) p = search (stable, tryNullify-stable, arguments-stable, field-resolved, value-stable)
 
-    step-stable : (t : Task) (p : Path) → Stable (step T rec t p)
+    step-stable : (t : Task) (p : Path) → Stable (step Q rec t p)
     unfolding step
-    step-stable (field type answer g) p = field-stable type answer g _ p
-    step-stable (item ty answer g args) p = search (stable, take-stable, item-stable)
+    step-stable (aField type answer g d) p = field-stable type answer g d p
+    step-stable (anItem ty answer g args) p = search (stable, resolved-stable, item-stable)
 
-  run-stable : (room : ℕ) (t : Task) (p : Path) → Stable (run T room t p)
+  run-stable : (room : ℕ) (t : Task) (p : Path) → Stable (run Q room t p)
   unfolding run
   run-stable zero t p = search stable
   run-stable (suc room) t p = step-stable (run-stable room) t p
 
-  pub execute-stable : Stable (execute T)
+  pub execute-stable : Stable (execute Q)
   unfolding execute
   execute-stable = set-stable (run-stable 32) _ _ _ _

@@ -5,12 +5,12 @@ use Rattle.graphql.specs.Run.{name, index}
 use Rattle.graphql.specs.Kit.{'Query, 'f, 'g, 'a, 'b, 'x, 'y, 'v, Kit, queries, sets, selections, nodes, answers, selection, field, set, if-true, if$, select, ask, intLiteral, listLiteral, nullNode, wholeNumber, stringNode, skips, errs, leafOf, listAnswer, objectAnswer, :Int, :Int!, :[Int], :[Int!], :[Int!]!, :[[Int]], :Float, over, one, echo, Case, error, chosen, answered, refusedAt}
 
 -- A: `[Int]`, 42 then error
-abbrev A : Case
+abbrev pub A : Case
 A = answered "A" (one :[Int] :[Int] (wholeNumber 42 0 ∷ []) (listAnswer 'f 2 2 ∷ leafOf 0 0 ∷ errs 0 ∷ []))
     "{\"f\":null}" (error 1 (selection 0) (name 'f ∷ index 1 ∷ []) ∷ [])
 
 -- B: `[Int]`, 42, skip, `"x"`
-abbrev B : Case
+abbrev pub B : Case
 B = answered "B" (one :[Int] :[Int] (wholeNumber 42 0 ∷ stringNode 'x ∷ []) (listAnswer 'f 2 3 ∷ leafOf 0 0 ∷ skips 0 ∷ leafOf 0 1 ∷ []))
     "{\"f\":[42,null]}" (error 15 (selection 0) (name 'f ∷ index 2 ∷ []) ∷ [])
 
@@ -19,7 +19,7 @@ abbrev C : Case
 C = answered "C" (one :[Int!]! :[Int!]! (wholeNumber 1 0 ∷ nullNode ∷ []) (listAnswer 'f 2 2 ∷ leafOf 0 0 ∷ leafOf 0 1 ∷ []))
     "null" (error 2 (selection 0) (name 'f ∷ index 1 ∷ []) ∷ [])
 
-abbrev D : Case
+abbrev pub D : Case
 D = answered "D" (one :[Int!] :[Int!] (wholeNumber 1 0 ∷ nullNode ∷ []) (listAnswer 'f 2 2 ∷ leafOf 0 0 ∷ leafOf 0 1 ∷ []))
     "{\"f\":null}" (error 2 (selection 0) (name 'f ∷ index 1 ∷ []) ∷ [])
 
@@ -58,7 +58,7 @@ both = over
 abbrev J : Case
 J = answered "J" both "null" (error 1 (selection 0) (name 'a ∷ []) ∷ [])
 
-abbrev K : Case
+abbrev pub K : Case
 K = chosen "K" both (1 ∷ []) "null" (error 1 (selection 1) (name 'b ∷ []) ∷ [])
 
 -- L: Int 1, buffer of 1 byte

@@ -1,6 +1,6 @@
 -- The depth check: "Depth rises by one on fields named by names 8 to 11; refused at 3. A fragment met again is refused only when depth
 -- so far plus its remembered rise is over 3; otherwise it doesn't raise the result. An undefined one is passed over. Skip and include
--- are ignored."
+-- are ignored." Read it after Lookup.
 use mathlib.Core.List.{List, [], _∷_}
 use mathlib.Core.Bool.{Bool, true, false, cond, _&&_}
 use mathlib.Core.Option.{Option, none, some}
@@ -14,6 +14,7 @@ use Rattle.tables.specs.Tables.{Tables}
 use Rattle.tables.specs.Lawful.{lawful}
 use Rattle.graphql.specs.Outcome.{codeOf, mostOpen}
 use Rattle.graphql.specs.declared.outcome.Outcome.the-variants.{Answered, Unlawful, TooFar, TooDeep}
+use Rattle.rows.specs.Names.{'fields, 'inputFields}
 use Rattle.graphql.specs.Lookup.{fragmentNamed, selectionsOf}
 
 -- the rise of each fragment that was met, by name
@@ -35,7 +36,7 @@ andThen tooManySets k = tooManySets
 andThen (tooDeep place) k = tooDeep place
 andThen (depth d rises) k = k d rises
 
-module _ (T : Tables) where
+module _ (sets selections fragments : List ℕ) where
   -- `open'` checks a set at a depth, one more set being open
   module _ (open' : ℕ → ℕ → Rises → Checked) (sofar : ℕ) where
     unfoldable pub childSet : ℕ → FieldSelection → Rises → Checked
@@ -46,7 +47,7 @@ module _ (T : Tables) where
     checkField place f rises =
         let raised = cond (leb 3 (suc sofar)) (tooDeep place) (childSet (suc sofar) f rises) in
         let same = childSet sofar f rises in
-        cond (leb 8 (f .name) && leb (f .name) 11) raised same
+        cond (leb 'fields (f .name) && leb (f .name) 'inputFields) raised same
 
     unfoldable pub metAgain : (place rise : ℕ) → Rises → Checked
     metAgain place rise rises = cond (ltb 3 (sofar + rise)) (tooDeep place) (depth sofar rises)
@@ -56,7 +57,7 @@ module _ (T : Tables) where
 
     unfoldable pub checkFragment : (place n f : ℕ) → Option ℕ → Rises → Checked
     checkFragment place n f (some rise) rises = metAgain place rise rises
-    checkFragment place n f none rises = andThen (open' (fragmentAt (T .fragments) f .set) sofar rises) (remembered n)
+    checkFragment place n f none rises = andThen (open' (fragmentAt fragments f .set) sofar rises) (remembered n)
 
     unfoldable pub checkSpread : (place n : ℕ) → Option ℕ → Rises → Checked
     checkSpread place n none rises = depth sofar rises
@@ -64,7 +65,7 @@ module _ (T : Tables) where
 
     unfoldable pub checkSelected : (place : ℕ) → Selected → Rises → Checked
     checkSelected place (selected.Field f) rises = checkField place f rises
-    checkSelected place (selected.Spread n) rises = checkSpread place n (fragmentNamed T n) rises
+    checkSelected place (selected.Spread n) rises = checkSpread place n (fragmentNamed fragments n) rises
     checkSelected place (selected.Inline type set) rises = open' set sofar rises
     checkSelected place selected.Unknown rises = depth sofar rises
 
@@ -72,13 +73,13 @@ module _ (T : Tables) where
     unfoldable pub checkSelections : List ℕ → ℕ → Rises → Checked
     checkSelections [] deepest rises = depth deepest rises
     checkSelections (row ∷ rest) deepest rises =
-        andThen (checkSelected (selectionAt (T .selections) row .place) (selectionAt (T .selections) row .what) rises)
+        andThen (checkSelected (selectionAt selections row .place) (selectionAt selections row .what) rises)
         (λ d rises'. checkSelections rest (max deepest d) rises')
 
   -- Code 3: "33 open sets in a depth check"; `room` is how many may still be opened
   unfoldable pub checkSet : ℕ → ℕ → ℕ → Rises → Checked
   checkSet zero set sofar rises = tooManySets
-  checkSet (suc room) set sofar rises = checkSelections (λ s d r. checkSet room s d r) sofar (selectionsOf T set) sofar rises
+  checkSet (suc room) set sofar rises = checkSelections (λ s d r. checkSet room s d r) sofar (selectionsOf sets set) sofar rises
 
 -- "A depth check that doesn't answer 8 gives place 0, and depth 0 unless its code is 0."
 pub record DepthReport : Type 0 where
@@ -93,5 +94,5 @@ answered (depth d rises) = record { code = codeOf Answered; depth' = d; place = 
 
 unfoldable pub depthReport : Tables → DepthReport
 depthReport T =
-    let checked = answered (checkSet T mostOpen 0 0 []) in
+    let checked = answered (checkSet (T .sets) (T .selections) (T .fragments) mostOpen 0 0 []) in
     cond (lawful T) checked (record { code = codeOf Unlawful; depth' = 0; place = 0 })

@@ -1,89 +1,44 @@
--- The error codes of document 01, "Error records", and where the error of each is placed.
-use mathlib.Core.Bool.{Bool, _&&_, _||_, cond}
+-- The errors of document 01, "Error records": their codes, and where each is placed. Their names are declared in src/errors.rt, which the code
+-- and the definition share. Read it after Run.
+use mathlib.Core.Bool.{_&&_, _||_, cond}
 use Prim.Native.Nat.{ℕ}
 use lib.Dec.{leb, eqb}
 use Rattle.graphql.specs.Run.{Path, Event, err}
+use Rattle.graphql.specs.declared.errors.FieldError.{FieldError}
+use Rattle.graphql.specs.declared.errors.FieldError.the-variants as error
 use Rattle.graphql.specs.declared.errors.PlaceKind.{PlaceKind}
 use Rattle.graphql.specs.declared.errors.PlaceKind.the-variants.{FirstField, ArgumentDefinition, Literal}
 
-abbrev pub resolver : ℕ
-resolver = 1
-
-abbrev pub nullForNonNull : ℕ
-nullForNonNull = 2
-
-abbrev pub listTypeWithoutList : ℕ
-listTypeWithoutList = 3
-
-abbrev pub listForNonListType : ℕ
-listForNonListType = 4
-
-abbrev pub undefinedType : ℕ
-undefinedType = 5
-
-abbrev pub inputObjectType : ℕ
-inputObjectType = 6
-
-abbrev pub objectForLeafType : ℕ
-objectForLeafType = 7
-
-abbrev pub objectTypeUnknown : ℕ
-objectTypeUnknown = 8
-
-abbrev pub notInUnion : ℕ
-notInUnion = 9
-
-abbrev pub notImplementing : ℕ
-notImplementing = 10
-
-abbrev pub otherObjectType : ℕ
-otherObjectType = 11
-
-abbrev pub leafForComposite : ℕ
-leafForComposite = 12
-
-abbrev pub notAnEnumValue : ℕ
-notAnEnumValue = 13
-
-abbrev pub intOverflow : ℕ
-intOverflow = 14
-
-abbrev pub leafOfAnotherKind : ℕ
-leafOfAnotherKind = 15
-
-abbrev pub nullArgument : ℕ
-nullArgument = 16
-
-abbrev pub innerNull : ℕ
-innerNull = 17
-
-abbrev pub nullVariable : ℕ
-nullVariable = 18
-
-abbrev pub missingVariable : ℕ
-missingVariable = 19
-
-abbrev pub undefinedInputType : ℕ
-undefinedInputType = 20
-
-abbrev pub unknownKey : ℕ
-unknownKey = 21
-
-abbrev pub missingInputField : ℕ
-missingInputField = 22
-
-abbrev pub cannotCoerce : ℕ
-cannotCoerce = 23
-
-abbrev pub missingArgument : ℕ
-missingArgument = 24
+-- "Codes: 1 resolver; 2 null for non-null; .. 24 missing argument."
+abbrev pub numberOf : FieldError → ℕ
+numberOf error.Resolver = 1
+numberOf error.NullForNonNull = 2
+numberOf error.ListTypeWithoutList = 3
+numberOf error.ListForNonListType = 4
+numberOf error.UndefinedType = 5
+numberOf error.InputObjectType = 6
+numberOf error.ObjectForLeafType = 7
+numberOf error.ObjectTypeUnknown = 8
+numberOf error.NotInUnion = 9
+numberOf error.NotImplementing = 10
+numberOf error.OtherObjectType = 11
+numberOf error.LeafForComposite = 12
+numberOf error.NotAnEnumValue = 13
+numberOf error.IntOverflow = 14
+numberOf error.LeafOfAnotherKind = 15
+numberOf error.NullArgument = 16
+numberOf error.InnerNull = 17
+numberOf error.NullVariable = 18
+numberOf error.MissingVariable = 19
+numberOf error.UndefinedInputType = 20
+numberOf error.UnknownKey = 21
+numberOf error.MissingInputField = 22
+numberOf error.CannotCoerce = 23
+numberOf error.MissingArgument = 24
 
 -- "Place: argument definition for 16 and 24, the literal for 17 to 23, else the first field."
 unfoldable pub placeOf : ℕ → PlaceKind
-placeOf code =
-    cond (eqb code nullArgument || eqb code missingArgument) ArgumentDefinition
-    (cond (leb innerNull code && leb code cannotCoerce) Literal
-    FirstField)
+placeOf code = cond (eqb code 16 || eqb code 24) ArgumentDefinition (cond (leb 17 code && leb code 23) Literal FirstField)
 
 -- the place of an error of this kind, where its first field, its argument's definition and its literal stand at these places
 unfoldable pub placeAmong : PlaceKind → (field definition literal : ℕ) → ℕ
@@ -91,6 +46,7 @@ placeAmong FirstField field definition literal = field
 placeAmong ArgumentDefinition field definition literal = definition
 placeAmong Literal field definition literal = literal
 
--- An error of a code, with the places that are at hand there: 0 for the others, which no error of that code has.
-unfoldable pub errorOf : (code field definition literal : ℕ) → Path → Event
-errorOf code field definition literal p = err code (placeAmong (placeOf code) field definition literal) p
+-- An error, with the places that are at hand there: 0 for the others, which no error of that code has.
+unfoldable pub errorOf : FieldError → (field definition literal : ℕ) → Path → Event
+errorOf e field definition literal p =
+    err (record { code = numberOf e; place = placeAmong (placeOf (numberOf e)) field definition literal; path = p })

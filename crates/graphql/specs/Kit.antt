@@ -7,10 +7,11 @@ use lib.ListN.{length, getD}
 use lib.Dec.{eqb}
 use Rattle.rows.specs.Ascii.{ascii}
 use Rattle.rows.specs.Strings.{same}
-use Rattle.rows.specs.Names.{reserved}
+use Rattle.rows.specs.Names.{reserved, 'typename, 'Int, 'Float, 'String, 'Boolean, 'ID}
 use Rattle.tables.specs.Tables.{Tables}
-use Rattle.graphql.specs.Run.{Segment, name, index, Path, Choices, err}
-use Rattle.graphql.specs.Report.{Report, report, recordWords}
+use Rattle.graphql.specs.Run.{Segment, name, index, Path, ErrorRecord, Choices}
+use Rattle.graphql.specs.Request.{Request}
+use Rattle.graphql.specs.Report.{wordsOf, Report, report}
 use Rattle.graphql.specs.Depth.{DepthReport, depthReport}
 
 -- ---- names, and the pool that holds them
@@ -29,34 +30,7 @@ kitTexts = "1.5" ∷ "1e400" ∷ []
 abbrev pub kitBytes : List ℕ
 kitBytes = 34 ∷ 92 ∷ 8 ∷ 12 ∷ 10 ∷ 13 ∷ 9 ∷ 1 ∷ []
 
--- names by number
-abbrev pub 'typename : ℕ
-'typename = 0
-
-abbrev pub 'Int : ℕ
-'Int = 1
-
-abbrev pub 'Float : ℕ
-'Float = 2
-
-abbrev pub 'String : ℕ
-'String = 3
-
-abbrev pub 'Boolean : ℕ
-'Boolean = 4
-
-abbrev pub 'ID : ℕ
-'ID = 5
-
-abbrev pub 'schema : ℕ
-'schema = 6
-
-abbrev pub 'fields : ℕ
-'fields = 8
-
-abbrev pub 'interfaces : ℕ
-'interfaces = 9
-
+-- the kits' own names by number; the reserved ones stand in Lookup
 abbrev pub 'Query : ℕ
 'Query = 12
 
@@ -245,6 +219,10 @@ tablesOf k = record {
   answers = words 0 (rowsFor 13 k);
   root = 0;
 }
+
+-- a run over the kit's tables
+abbrev pub asking : Kit → Request
+asking k = record { tables = tablesOf k }
 
 -- ---- rows of the schema
 
@@ -542,12 +520,6 @@ v-is ns = nodes ns ∷ variables (giving 'v 0 ∷ []) ∷ []
 
 -- ---- worked runs
 
--- an error that a worked run is to record
-pub record Expected : Type 0 where
-  pub code : ℕ
-  pub place : ℕ
-  pub path : Path
-
 -- a worked run: a kit, buffers and choices, and what is to come of it
 pub record Case : Type 0 where
   pub label : String
@@ -557,13 +529,13 @@ pub record Case : Type 0 where
   pub choices : Choices
   pub code : ℕ
   pub text : List ℕ
-  pub errors : List Expected
+  pub errors : List ErrorRecord
 
-abbrev pub error : ℕ → ℕ → Path → Expected
+abbrev pub error : ℕ → ℕ → Path → ErrorRecord
 error code place path = record { code = code; place = place; path = path }
 
 -- answered 0, in the order of the document or in one that the choices say, with all the room that there may be
-abbrev pub chosen : String → Kit → Choices → String → List Expected → Case
+abbrev pub chosen : String → Kit → Choices → String → List ErrorRecord → Case
 chosen label kit choices text errors = record {
   label = label;
   kit = kit;
@@ -575,7 +547,7 @@ chosen label kit choices text errors = record {
   errors = errors;
 }
 
-abbrev pub answered : String → Kit → String → List Expected → Case
+abbrev pub answered : String → Kit → String → List ErrorRecord → Case
 answered label kit text errors = chosen label kit [] text errors
 
 -- `f` fails with this code, and is null
@@ -598,15 +570,11 @@ refusedAt label kit textRoom errorRoom choices code = record {
 abbrev pub refuses : String → Kit → ℕ → Case
 refuses label kit code = refusedAt label kit 65536 16384 [] code
 
-abbrev pub expectedWords : List Expected → List ℕ
-expectedWords [] = []
-expectedWords (e ∷ rest) = recordWords (err (e .code) (e .place) (e .path) ∷ []) ++ expectedWords rest
-
 abbrev pub agrees : Case → Report → Bool
-agrees c r = eqb (r .code) (c .code) && (same (r .text) (c .text) && (same (r .words) (expectedWords (c .errors)) && eqb (r .records) (length (c .errors))))
+agrees c r = eqb (r .code) (c .code) && (same (r .text) (c .text) && (same (r .words) (wordsOf (c .errors)) && eqb (r .records) (length (c .errors))))
 
 abbrev pub right : Case → Bool
-right c = agrees c (report (tablesOf (c .kit)) (c .textRoom) (c .errorRoom) (c .choices))
+right c = agrees c (report (asking (c .kit)) (c .textRoom) (c .errorRoom) (c .choices))
 
 abbrev pub allRight : List Case → Bool
 allRight [] = true

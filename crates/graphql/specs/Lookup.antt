@@ -1,7 +1,7 @@
--- What the tables say, by name: types and their parts, fragments, variables, the answer of a field. Answers are reached through
--- `fieldAnswer` and `answerOf` alone.
+-- What the tables say, by name: types and their parts, fragments, variables, the answer of a field. Each definition takes the tables that it
+-- reads, as the row views do. Read it after Outcome.
 use mathlib.Core.List.{List, [], _∷_}
-use mathlib.Core.Bool.{Bool, true, false, not, cond, _&&_, _||_}
+use mathlib.Core.Bool.{Bool, true, false, not, cond, _||_}
 use mathlib.Core.Option.{Option, none, some}
 use Prim.Native.Nat.{ℕ, zero, suc}
 use lib.Dec.{eqb}
@@ -10,18 +10,16 @@ use Rattle.rows.specs.Rows.{rowsOf}
 use Rattle.rows.specs.Strings.{same}
 use Rattle.rows.specs.Names.{nameText}
 use Rattle.rows.specs.Schema.{typeRefAt, typeAt, memberAt, fieldAt}
-use Rattle.rows.specs.Document.{setAt, fragmentAt, givenAt}
+use Rattle.rows.specs.Document.{setAt, fragmentAt}
 use Rattle.rows.specs.Json.{variableAt}
 use Rattle.rows.specs.Answers.{answerAt, answerName}
 use Rattle.rows.specs.declared.layout.Range.{Range}
 use Rattle.rows.specs.declared.schema.TypeRef.{TypeRef}
 use Rattle.rows.specs.declared.schema.TypeRef.the-variants as ref
-use Rattle.rows.specs.declared.schema.TypeKind.{TypeKind}
-use Rattle.rows.specs.declared.schema.TypeKind.the-variants as kind
-use Rattle.rows.specs.declared.schema.TypeDef.{TypeDef}
 use Rattle.rows.specs.declared.answers.Answer.{Answer}
 use Rattle.rows.specs.declared.answers.Answer.the-variants as answer
-use Rattle.tables.specs.Tables.{Tables}
+
+-- ---- Searching rows
 
 -- the rows first, first + 1, .., as many as count says
 unfoldable pub rowsFrom : ℕ → ℕ → List ℕ
@@ -40,66 +38,57 @@ unfoldable pub any : (ℕ → Bool) → List ℕ → Bool
 any test [] = false
 any test (row ∷ rest) = test row || any test rest
 
--- "non-null" of a type reference
+-- ---- The schema
+
 unfoldable pub nonNullRef : TypeRef → Bool
 nonNullRef (ref.Named name nullable) = not nullable
 nonNullRef (ref.ListOf inner nullable) = not nullable
 nonNullRef ref.Unknown = false
 
-module _ (T : Tables) where
-  -- the bytes of a name
-  unfoldable pub bytesOf : ℕ → List ℕ
-  bytesOf n = nameText (T .pool) (T .names) n
+-- "non-null" of a type reference
+unfoldable pub nonNull : (refs : List ℕ) → ℕ → Bool
+nonNull refs ty = nonNullRef (typeRefAt refs ty)
 
-  unfoldable pub refOf : ℕ → TypeRef
-  refOf ty = typeRefAt (T .refs) ty
+-- the type of this name, if it is defined
+unfoldable pub typeNamed : (types : List ℕ) → ℕ → Option ℕ
+typeNamed types n = find (λ row. eqb (typeAt types row .name) n) (rowsFrom 0 (rowsOf types typeWidth))
 
-  unfoldable pub nonNull : ℕ → Bool
-  nonNull ty = nonNullRef (refOf ty)
+-- whether the name is one of the type's values, members or interfaces
+unfoldable pub lists : (types members : List ℕ) → (type n : ℕ) → Bool
+lists types members type n = any (λ row. eqb (memberAt members row) n) (rowsIn (typeAt types type .members))
 
-  -- the type of this name, if it is defined
-  unfoldable pub typeNamed : ℕ → Option ℕ
-  typeNamed n = find (λ row. eqb (typeAt (T .types) row .name) n) (rowsFrom 0 (rowsOf (T .types) typeWidth))
+-- whether a string is the name of one of an enum's values
+unfoldable pub hasValue : (pool names types members : List ℕ) → (type : ℕ) → List ℕ → Bool
+hasValue pool names types members type s =
+    any (λ row. same (nameText pool names (memberAt members row)) s) (rowsIn (typeAt types type .members))
 
-  unfoldable pub typeOf : ℕ → TypeDef
-  typeOf row = typeAt (T .types) row
+-- the field of this name in a type
+unfoldable pub fieldNamed : (types fields : List ℕ) → (type n : ℕ) → Option ℕ
+fieldNamed types fields type n = find (λ row. eqb (fieldAt fields row .name) n) (rowsIn (typeAt types type .fields))
 
-  -- whether the name is one of the type's values, members or interfaces
-  unfoldable pub lists : ℕ → ℕ → Bool
-  lists type n = any (λ row. eqb (memberAt (T .members) row) n) (rowsIn (typeOf type .members))
+-- ---- The document and the values of variables
 
-  -- whether a string is the name of one of an enum's values
-  unfoldable pub hasValue : ℕ → List ℕ → Bool
-  hasValue type s = any (λ row. same (bytesOf (memberAt (T .members) row)) s) (rowsIn (typeOf type .members))
+unfoldable pub fragmentNamed : (fragments : List ℕ) → ℕ → Option ℕ
+fragmentNamed fragments n = find (λ row. eqb (fragmentAt fragments row .name) n) (rowsFrom 0 (rowsOf fragments fragmentWidth))
 
-  -- the field of this name in a type
-  unfoldable pub fieldNamed : ℕ → ℕ → Option ℕ
-  fieldNamed type n = find (λ row. eqb (fieldAt (T .fields) row .name) n) (rowsIn (typeOf type .fields))
+unfoldable pub selectionsOf : (sets : List ℕ) → ℕ → List ℕ
+selectionsOf sets set = rowsIn (setAt sets set)
 
-  unfoldable pub fragmentNamed : ℕ → Option ℕ
-  fragmentNamed n = find (λ row. eqb (fragmentAt (T .fragments) row .name) n) (rowsFrom 0 (rowsOf (T .fragments) fragmentWidth))
+-- the row of the value of the variable of this name
+unfoldable pub variableNamed : (variables : List ℕ) → ℕ → Option ℕ
+variableNamed variables n = find (λ row. eqb (variableAt variables row .name) n) (rowsFrom 0 (rowsOf variables variableWidth))
 
-  -- the row of the value of the variable of this name
-  unfoldable pub variableNamed : ℕ → Option ℕ
-  variableNamed n = find (λ row. eqb (variableAt (T .variables) row .name) n) (rowsFrom 0 (rowsOf (T .variables) variableWidth))
+-- ---- The answers
 
-  unfoldable pub selectionsOf : ℕ → List ℕ
-  selectionsOf set = rowsIn (setAt (T .sets) set)
+unfoldable pub fieldsOf : Answer → List ℕ
+fieldsOf answer.Skip = []
+fieldsOf answer.Error = []
+fieldsOf (answer.Leaf node) = []
+fieldsOf (answer.List rows) = []
+fieldsOf (answer.Object type fields) = rowsIn fields
+fieldsOf (answer.Echo name) = []
+fieldsOf answer.Unknown = []
 
-  -- ---- the answers
-
-  unfoldable pub answerOf : ℕ → Answer
-  answerOf row = answerAt (T .answers) row
-
-  unfoldable pub fieldsOfAnswer : Answer → List ℕ
-  fieldsOfAnswer answer.Skip = []
-  fieldsOfAnswer answer.Error = []
-  fieldsOfAnswer (answer.Leaf node) = []
-  fieldsOfAnswer (answer.List rows) = []
-  fieldsOfAnswer (answer.Object type fields) = rowsIn fields
-  fieldsOfAnswer (answer.Echo name) = []
-  fieldsOfAnswer answer.Unknown = []
-
-  -- the answer to a field of an object; "no row is an error"
-  unfoldable pub fieldAnswer : ℕ → ℕ → Option ℕ
-  fieldAnswer object n = find (λ row. eqb (answerName (T .answers) row) n) (fieldsOfAnswer (answerOf object))
+-- the answer to a field of an object
+unfoldable pub fieldAnswer : (answers : List ℕ) → (object n : ℕ) → Option ℕ
+fieldAnswer answers object n = find (λ row. eqb (answerName answers row) n) (fieldsOf (answerAt answers object))

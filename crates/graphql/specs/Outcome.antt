@@ -32,5 +32,5 @@ abbrev pub mostOpen : ℕ
 mostOpen = 32
 
 -- "a 129th field"
-abbrev pub mostFields : ℕ
-mostFields = 128
+abbrev pub mostCollected : ℕ
+mostCollected = 128

@@ -1,5 +1,5 @@
 -- What a run is: it reads choices, logs events, and ends stopped, failed or done. The two combinators that go through several parts:
--- `inOrder` for the items of a list, `anyOrder` for the groups of a selection set, in the order that the choices say.
+-- `inOrder` for the items of a list, `anyOrder` for the groups of a selection set, in the order that the choices say. Read it first.
 use mathlib.Core.List.{List, [], _∷_, _++_}
 use mathlib.Core.Bool.{Bool, true, false}
 use Prim.Native.Nat.{ℕ, zero, suc, _%_}
@@ -13,9 +13,15 @@ pub data Segment : Type 0 where
 abbrev pub Path : Type 0
 Path = List Segment
 
--- What a run writes down: an error record (code, place, path), a selection set that was given up, a list item that was skipped.
+-- An error record: its code, its place in the document or the schema, its path in the response.
+pub record ErrorRecord : Type 0 where
+  pub code : ℕ
+  pub place : ℕ
+  pub path : Path
+
+-- What a run writes down: an error record, a selection set that was given up, a list item that was skipped.
 pub data Event : Type 0 where
-  err : ℕ → ℕ → Path → Event
+  err : ErrorRecord → Event
   givenUp : Path → Event
   skipped : Path → Event
 

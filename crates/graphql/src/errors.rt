@@ -1,6 +1,34 @@
 // The error codes of document 01, and where the error of each is placed.
 ghost use mathlib.Core.Path.{_≡_};
-ghost use Rattle.graphql.specs.Errors.{placeOf};
+ghost use Rattle.graphql.specs.Errors.{numberOf, placeOf};
+
+// What can go wrong with a field, in the order of document 01.
+pub enum FieldError {
+    Resolver,
+    NullForNonNull,
+    ListTypeWithoutList,
+    ListForNonListType,
+    UndefinedType,
+    InputObjectType,
+    ObjectForLeafType,
+    ObjectTypeUnknown,
+    NotInUnion,
+    NotImplementing,
+    OtherObjectType,
+    LeafForComposite,
+    NotAnEnumValue,
+    IntOverflow,
+    LeafOfAnotherKind,
+    NullArgument,
+    InnerNull,
+    NullVariable,
+    MissingVariable,
+    UndefinedInputType,
+    UnknownKey,
+    MissingInputField,
+    CannotCoerce,
+    MissingArgument,
+}
 
 // The kind of place that an error record has.
 pub enum PlaceKind {
@@ -80,5 +108,39 @@ impl ErrorCode {
             return PlaceKind::Literal;
         }
         PlaceKind::FirstField
+    }
+}
+
+impl FieldError {
+    // Document 01's number for it.
+    pub fn number(self) -> u32
+        ensures { λ r. ⌜ r ≡ numberOf self ⌝ }
+    {
+        match self {
+            FieldError::Resolver => ErrorCode::RESOLVER,
+            FieldError::NullForNonNull => ErrorCode::NULL_FOR_NON_NULL,
+            FieldError::ListTypeWithoutList => ErrorCode::LIST_TYPE_WITHOUT_LIST,
+            FieldError::ListForNonListType => ErrorCode::LIST_FOR_NON_LIST_TYPE,
+            FieldError::UndefinedType => ErrorCode::UNDEFINED_TYPE,
+            FieldError::InputObjectType => ErrorCode::INPUT_OBJECT_TYPE,
+            FieldError::ObjectForLeafType => ErrorCode::OBJECT_FOR_LEAF_TYPE,
+            FieldError::ObjectTypeUnknown => ErrorCode::OBJECT_TYPE_UNKNOWN,
+            FieldError::NotInUnion => ErrorCode::NOT_IN_UNION,
+            FieldError::NotImplementing => ErrorCode::NOT_IMPLEMENTING,
+            FieldError::OtherObjectType => ErrorCode::OTHER_OBJECT_TYPE,
+            FieldError::LeafForComposite => ErrorCode::LEAF_FOR_COMPOSITE,
+            FieldError::NotAnEnumValue => ErrorCode::NOT_AN_ENUM_VALUE,
+            FieldError::IntOverflow => ErrorCode::INT_OVERFLOW,
+            FieldError::LeafOfAnotherKind => ErrorCode::LEAF_OF_ANOTHER_KIND,
+            FieldError::NullArgument => ErrorCode::NULL_ARGUMENT,
+            FieldError::InnerNull => ErrorCode::INNER_NULL,
+            FieldError::NullVariable => ErrorCode::NULL_VARIABLE,
+            FieldError::MissingVariable => ErrorCode::MISSING_VARIABLE,
+            FieldError::UndefinedInputType => ErrorCode::UNDEFINED_INPUT_TYPE,
+            FieldError::UnknownKey => ErrorCode::UNKNOWN_KEY,
+            FieldError::MissingInputField => ErrorCode::MISSING_INPUT_FIELD,
+            FieldError::CannotCoerce => ErrorCode::CANNOT_COERCE,
+            FieldError::MissingArgument => ErrorCode::MISSING_ARGUMENT,
+        }
     }
 }

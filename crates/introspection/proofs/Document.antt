@@ -1,129 +1,39 @@
--- The walk reads the sets, the selections and the fragments alone, and in lawful tables these are few. Assumes nothing.
+-- In lawful tables the sets, the selections and the fragments are few. Assumes nothing.
 use mathlib.Core.Path.{_≡_, refl}
-use mathlib.Core.Bool.{true, _&&_}
-use mathlib.Core.List.{List, [], _∷_}
-use mathlib.Core.Option.{Option, none, some}
-use Prim.Native.Nat.{ℕ, zero, suc, _+_, _*_, _/_, _%_, _≤_, _<_, max}
+use mathlib.Core.Bool.{true}
+use Prim.Native.Nat.{ℕ, _+_, _*_, _≤_, _<_}
 use native.Mathlib.Decide.{decLe}
 use native.Mathlib.Omega.{arith}
-use lib.Dec.{eqb, leb}
 use lib.ListN.{length, replicate, List·getD-eq-default}
-use borrow.Author.Tests.{leb-true, eqb-true}
-use Rattle.rows.specs.Layout.{setWidth, selectionWidth, fragmentWidth}
-use Rattle.rows.specs.Rows.{rowsOf, cell, counted}
+use borrow.Author.Tests.{leb-true}
+use Rattle.rows.specs.Limits.{mostSelections}
+use Rattle.rows.specs.Rows.{cell}
 use Rattle.rows.specs.Document.{setAt}
-use Rattle.rows.specs.declared.document.Selected.{Selected}
-use Rattle.rows.specs.declared.document.Selected.the-variants.{Field, Spread, Inline, Unknown}
-use Rattle.rows.proofs.Every.{and-left, and-right}
-use Rattle.tables.specs.Tables.{Tables}
-use Rattle.tables.specs.Rules.{ruleAt, rowsLawful}
-use Rattle.tables.specs.Defaults.{defaultsClosed}
+use Rattle.tables.specs.Tables.{Tables, setCount, selectionCount}
 use Rattle.tables.specs.Lawful.{lawful}
-use Rattle.tables.proofs.Lawful.{rule-holds}
-use Rattle.graphql.specs.Lookup.{fragmentNamed, selectionsOf}
-use Rattle.graphql.specs.Depth.{Rises, riseOf, Checked, tooManySets, tooDeep, depth, andThen, childSet, checkField, metAgain, remembered, checkFragment, checkSpread, checkSelected, checkSelections, checkSet}
-use Rattle.introspection.specs.MaxDepth.{documentOf, Walkable}
+use Rattle.tables.proofs.Facts.{few-selections, few-fragments, set-row, sets-end}
+use Rattle.introspection.specs.MaxDepth.{Walkable}
 
--- ---- what the walk reads
-
-then-same : (x : Checked) {k k' : ℕ → Rises → Checked} → ((d : ℕ) (rises : Rises) → k d rises ≡ k' d rises) → andThen x k ≡ andThen x k'
-unfolding andThen
-then-same tooManySets h = refl
-then-same (tooDeep place) h = refl
-then-same (depth d rises) h = h d rises
-
-module _ (T : Tables) where
-  abbrev read : Tables
-  read = documentOf (T .sets) (T .selections) (T .fragments)
-
-  module _ (f g : ℕ → ℕ → Rises → Checked) (same : (set d : ℕ) (rises : Rises) → f set d rises ≡ g set d rises) (sofar : ℕ) where
-    spread-same : (place n : ℕ) (o : Option ℕ) (rises : Rises) → checkSpread T f sofar place n o rises ≡ checkSpread read g sofar place n o rises
-    unfolding checkSpread checkFragment metAgain remembered
-    spread-same place n none rises = refl
-    spread-same place n (some row) rises = go (riseOf n rises)
-      where
-        go : (o : Option ℕ) → checkFragment T f sofar place n row o rises ≡ checkFragment read g sofar place n row o rises
-        go none = rw same
-        go (some rise) = refl
-
-    selected-same : (place : ℕ) (what : Selected) (rises : Rises) → checkSelected T f sofar place what rises ≡ checkSelected read g sofar place what rises
-    unfolding checkSelected checkField childSet fragmentNamed
-    selected-same place (Field field) rises = rw (same (field .set) (suc sofar) rises, same (field .set) sofar rises)
-    selected-same place (Spread n) rises = spread-same place n (fragmentNamed T n) rises
-    selected-same place (Inline type set) rises = same set sofar rises
-    selected-same place Unknown rises = refl
-
-    selections-same : (rows : List ℕ) (deepest : ℕ) (rises : Rises) → checkSelections T f sofar rows deepest rises ≡ checkSelections read g sofar rows deepest rises
-    unfolding checkSelections
-    selections-same [] deepest rises = refl
-    selections-same (row ∷ rest) deepest rises = rw selected-same (then-same _ (λ d rises'. selections-same rest (max deepest d) rises'))
-
-  pub set-same : (room set sofar : ℕ) (rises : Rises) → checkSet T room set sofar rises ≡ checkSet read room set sofar rises
-  unfolding checkSet selectionsOf
-  set-same zero set sofar rises = refl
-  set-same (suc room) set sofar rises =
-      selections-same (checkSet T room) (checkSet read room) (λ s d r. set-same room s d r) sofar (selectionsOf T set) sofar rises
-
--- ---- lawful tables
-
-module _ (width least most : ℕ) (t : List ℕ) (h : counted width least most t ≡ true) where
-  whole : length t % width ≡ 0
-  whole = eqb-true (length t % width) 0 (and-left (eqb (length t % width) 0) (leb least (length t / width) && leb (length t / width) most) h)
-
-  at-most : length t / width ≤ most
-  at-most =
-      leb-true (length t / width) most
-      (and-right (leb least (length t / width)) (leb (length t / width) most)
-      (and-right (eqb (length t % width) 0) (leb least (length t / width) && leb (length t / width) most) h))
-
-module _ (T : Tables) (h : rowsLawful T ≡ true) where
-  sets-counted : counted setWidth 1 4294967295 (T .sets) ≡ true
-  unfolding ruleAt
-  sets-counted = rule-holds T h 6 (omega arith) 0 (omega arith)
-
-  selections-counted : counted selectionWidth 0 2048 (T .selections) ≡ true
-  unfolding ruleAt
-  selections-counted = rule-holds T h 7 (omega arith) 0 (omega arith)
-
-  fragments-counted : counted fragmentWidth 0 64 (T .fragments) ≡ true
-  unfolding ruleAt
-  fragments-counted = rule-holds T h 9 (omega arith) 0 (omega arith)
-
-  few-selections : rowsOf (T .selections) selectionWidth ≤ 2048
-  unfolding rowsOf
-  few-selections = omega (arith, at-most selectionWidth 0 2048 (T .selections) selections-counted)
-
-  few-fragments : rowsOf (T .fragments) fragmentWidth ≤ 64
-  unfolding rowsOf
-  few-fragments = omega (arith, at-most fragmentWidth 0 64 (T .fragments) fragments-counted)
-
+module _ (T : Tables) (h : lawful T ≡ true) where
   -- a set that is there has its selections there; one that is not has none
-  range-there : (set : ℕ) → set < rowsOf (T .sets) setWidth → setAt (T .sets) set .first + setAt (T .sets) set .count ≤ 2048
-  unfolding ruleAt
+  range-there : (set : ℕ) → set < setCount T → setAt (T .sets) set .first + setAt (T .sets) set .count ≤ mostSelections
   range-there set l =
-      let r = leb-true (setAt (T .sets) set .first + setAt (T .sets) set .count) (rowsOf (T .selections) selectionWidth) (rule-holds T h 27 (omega arith) set l) in
-      omega (arith, few-selections)
+      let r = leb-true (setAt (T .sets) set .first + setAt (T .sets) set .count) (selectionCount T) (set-row T h set l) in
+      omega (arith, few-selections T h)
 
-  past-end : (set : ℕ) → rowsOf (T .sets) setWidth ≤ set → length (T .sets) ≤ set * 2
-  unfolding rowsOf
-  past-end set l = omega (arith, whole setWidth 1 4294967295 (T .sets) sets-counted, at-most setWidth 1 4294967295 (T .sets) sets-counted)
-
-  range-past : (set : ℕ) → rowsOf (T .sets) setWidth ≤ set → setAt (T .sets) set .first + setAt (T .sets) set .count ≤ 2048
+  range-past : (set : ℕ) → setCount T ≤ set → setAt (T .sets) set .first + setAt (T .sets) set .count ≤ mostSelections
   unfolding setAt cell
   range-past set l =
-      let a : length (T .sets) ≤ set * 2 + 0 = omega (arith, past-end set l) in
-      let b : length (T .sets) ≤ set * 2 + 1 = omega (arith, past-end set l) in
+      let a : length (T .sets) ≤ set * 2 + 0 = omega (arith, sets-end T h set l) in
+      let b : length (T .sets) ≤ set * 2 + 1 = omega (arith, sets-end T h set l) in
       rw (List·getD-eq-default (T .sets) 0 {n = set * 2 + 0} a, List·getD-eq-default (T .sets) 0 {n = set * 2 + 1} b) (omega arith)
 
-  range-few : (set : ℕ) → setAt (T .sets) set .first + setAt (T .sets) set .count ≤ 2048
-  range-few set = go (decLe (rowsOf (T .sets) setWidth) set)
+  range-few : (set : ℕ) → setAt (T .sets) set .first + setAt (T .sets) set .count ≤ mostSelections
+  range-few set = go (decLe (setCount T) set)
     where
-      go : Dec (rowsOf (T .sets) setWidth ≤ set) → setAt (T .sets) set .first + setAt (T .sets) set .count ≤ 2048
+      go : Dec (setCount T ≤ set) → setAt (T .sets) set .first + setAt (T .sets) set .count ≤ mostSelections
       go (yes l) = range-past set l
       go (no l) = range-there set (omega arith)
 
 pub walkable : (T : Tables) → lawful T ≡ true → Walkable (T .sets) (T .fragments) (replicate 64 0) 0
-unfolding lawful
-walkable T h =
-    let rows : rowsLawful T ≡ true = and-left (rowsLawful T) (defaultsClosed (T .fields) (T .arguments) (T .literals)) h in
-    record { within = range-few T rows; few = few-fragments T rows; marked = refl; shallow = omega arith }
+walkable T h = record { within = range-few T h; few = few-fragments T h; marked = refl; shallow = omega arith }

@@ -15,7 +15,7 @@ use Rattle.rows.specs.Document.{fragmentAt}
 use Rattle.rows.specs.declared.layout.Optional.the-variants.{Absent, Row}
 use Rattle.rows.specs.declared.document.Fragment.{Fragment}
 use Rattle.graphql.specs.Lookup.{rowsFrom, find, fragmentNamed}
-use Rattle.introspection.specs.MaxDepth.{documentOf, rowOf}
+use Rattle.introspection.specs.MaxDepth.{rowOf}
 
 module _ (test : ℕ → Bool) where
   -- the row that comes next does not pass
@@ -62,7 +62,7 @@ module _ (fragments : List ℕ) (name : ℕ) where
   -- the search came to this row
   pub record Seeking (count row : ℕ) : Type 0 where
     pub below : row ≤ count
-    pub sought : fragmentNamed (documentOf [] [] fragments) name ≡ find named (rowsFrom row (count - row))
+    pub sought : fragmentNamed fragments name ≡ find named (rowsFrom row (count - row))
 
   pub seek-begin : {count : ℕ} → count ≡ rowsOf fragments fragmentWidth → Seeking count 0
   unfolding fragmentNamed
@@ -72,10 +72,10 @@ module _ (fragments : List ℕ) (name : ℕ) where
     pub seek-next : (fragment .name ≡ name → ⊥) → Seeking count (row + 1)
     seek-next d = record { below = omega arith; sought = s .sought ∙ find-next named row count l (ne-eqb (fragmentAt fragments row .name) name (rw e at d)) }
 
-    pub seek-found : fragment .name ≡ name → Row row ≡ rowOf (fragmentNamed (documentOf [] [] fragments) name)
+    pub seek-found : fragment .name ≡ name → Row row ≡ rowOf (fragmentNamed fragments name)
     seek-found d = rw (s .sought, find-here named row count l (eq-eqb (fragmentAt fragments row .name) name (rw e at d)))
 
-  pub seek-none : {count row : ℕ} → Seeking count row → count ≤ row → Absent ≡ rowOf (fragmentNamed (documentOf [] [] fragments) name)
+  pub seek-none : {count row : ℕ} → Seeking count row → count ≤ row → Absent ≡ rowOf (fragmentNamed fragments name)
   seek-none {count} {row} s l = rw (s .sought, find-end named row count l)
 
 pub ruleset seeking = (seek-begin, seek-next, seek-found, seek-none)

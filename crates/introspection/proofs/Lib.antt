@@ -1,3 +1,4 @@
+pub mod Determined
 pub mod Document
 pub mod Ends
 pub mod Found

@@ -13,38 +13,37 @@ use borrow.Author.Tests.{eqb-true, eqb-false}
 use Rattle.rows.specs.Layout.{fragmentWidth}
 use Rattle.rows.specs.Rows.{rowsOf}
 use Rattle.rows.specs.Document.{fragmentAt}
-use Rattle.tables.specs.Tables.{Tables}
 use Rattle.graphql.specs.Lookup.{rowsFrom, fragmentNamed}
 use Rattle.graphql.specs.Depth.{Rises, riseOf}
 use Rattle.introspection.specs.MaxDepth.{Marked, markOf}
 use Rattle.introspection.proofs.Found.{named, find-passes, find-below}
 
-module _ (T : Tables) where
+module _ (fragments : List ℕ) where
   -- the row of a name is one of the fragments', and has that name
-  pub row-below : (name row : ℕ) → fragmentNamed T name ≡ some row → row < rowsOf (T .fragments) fragmentWidth
+  pub row-below : (name row : ℕ) → fragmentNamed fragments name ≡ some row → row < rowsOf fragments fragmentWidth
   unfolding fragmentNamed
-  row-below name row e = rw zero-add at (find-below (named (T .fragments) name) 0 (rowsOf (T .fragments) fragmentWidth) row e)
+  row-below name row e = rw zero-add at (find-below (named fragments name) 0 (rowsOf fragments fragmentWidth) row e)
 
-  row-named : (name row : ℕ) → fragmentNamed T name ≡ some row → fragmentAt (T .fragments) row .name ≡ name
+  row-named : (name row : ℕ) → fragmentNamed fragments name ≡ some row → fragmentAt fragments row .name ≡ name
   unfolding fragmentNamed
   row-named name row e =
-      eqb-true (fragmentAt (T .fragments) row .name) name
-      (find-passes (named (T .fragments) name) (rowsFrom 0 (rowsOf (T .fragments) fragmentWidth)) row e)
+      eqb-true (fragmentAt fragments row .name) name
+      (find-passes (named fragments name) (rowsFrom 0 (rowsOf fragments fragmentWidth)) row e)
 
   -- nothing is remembered
-  pub unmarked : rowsOf (T .fragments) fragmentWidth ≤ 64 → Marked T (replicate 64 0) []
+  pub unmarked : rowsOf fragments fragmentWidth ≤ 64 → Marked fragments (replicate 64 0) []
   unfolding riseOf
   unmarked few = record { marked = λ name row e. getD-replicate 64 row 0 0 (let l = row-below name row e in omega arith) }
 
-  module _ {marks : List ℕ} {rises : Rises} (m : Marked T marks rises) where
-    pub not-met : (name row : ℕ) → fragmentNamed T name ≡ some row → getD marks row 0 ≡ 0 → riseOf name rises ≡ none
+  module _ {marks : List ℕ} {rises : Rises} (m : Marked fragments marks rises) where
+    pub not-met : (name row : ℕ) → fragmentNamed fragments name ≡ some row → getD marks row 0 ≡ 0 → riseOf name rises ≡ none
     not-met name row e z = go (riseOf name rises) (sym (m .marked name row e) ∙ z)
       where
         go : (o : Option ℕ) → markOf o ≡ 0 → o ≡ none
         go none h = refl
         go (some rise) h = absurd (omega arith)
 
-    pub met : (name row : ℕ) → fragmentNamed T name ≡ some row → (getD marks row 0 ≡ 0 → ⊥) → riseOf name rises ≡ some (getD marks row 0 - 1)
+    pub met : (name row : ℕ) → fragmentNamed fragments name ≡ some row → (getD marks row 0 ≡ 0 → ⊥) → riseOf name rises ≡ some (getD marks row 0 - 1)
     met name row e z = go (riseOf name rises) (m .marked name row e)
       where
         go : (o : Option ℕ) → getD marks row 0 ≡ markOf o → o ≡ some (getD marks row 0 - 1)
@@ -52,15 +51,15 @@ module _ (T : Tables) where
         go (some rise) h = let s : rise ≡ getD marks row 0 - 1 = omega arith in ap some s
 
     -- one more is
-    pub marked-one : (name row rise : ℕ) → fragmentNamed T name ≡ some row → row < length marks → Marked T (set marks row (rise + 1)) ((name, rise) ∷ rises)
+    pub marked-one : (name row rise : ℕ) → fragmentNamed fragments name ≡ some row → row < length marks → Marked fragments (set marks row (rise + 1)) ((name, rise) ∷ rises)
     unfolding riseOf
     marked-one name row rise e l = record { marked = λ name' row' e'. go name' row' e' (eqb name name') refl }
       where
-        go : (name' row' : ℕ) → fragmentNamed T name' ≡ some row' → (b : Bool) → eqb name name' ≡ b
+        go : (name' row' : ℕ) → fragmentNamed fragments name' ≡ some row' → (b : Bool) → eqb name name' ≡ b
             → getD (set marks row (rise + 1)) row' 0 ≡ markOf (cond b (some rise) (riseOf name' rises))
         go name' row' e' true t =
             let n : name ≡ name' = eqb-true name name' t in
-            let e'' : fragmentNamed T name ≡ some row' = rw n e' in
+            let e'' : fragmentNamed fragments name ≡ some row' = rw n e' in
             let s : row ≡ row' = cc in
             rw (← s) (getD-set-same marks row (rise + 1) 0 l)
         go name' row' e' false t =

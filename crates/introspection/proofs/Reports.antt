@@ -11,11 +11,11 @@ use Rattle.graphql.specs.Outcome.{codeOf}
 use Rattle.graphql.specs.declared.outcome.Outcome.the-variants.{Unlawful}
 use Rattle.graphql.specs.Depth.{Rises, checkSet, answered, depthReport}
 use Rattle.graphql.specs.Depth as defined
-use Rattle.introspection.specs.MaxDepth.{Answers, documentOf, said, meant, Checks, Walkable}
+use Rattle.introspection.specs.MaxDepth.{Answers, said, meant, Checks, Walkable}
 use Rattle.introspection.specs.declared.max_depth.DepthAnswer.{DepthAnswer}
 use Rattle.introspection.specs.declared.max_depth.Checked.{Checked}
 use Rattle.introspection.proofs.Marks.{unmarked}
-use Rattle.introspection.proofs.Document.{set-same, walkable}
+use Rattle.introspection.proofs.Document.{walkable}
 
 heard : (x : defined.Checked) → answered (meant (said x)) ≡ answered x
 unfolding answered
@@ -24,10 +24,10 @@ heard (defined.tooDeep place) = refl
 heard (defined.depth d rises) = refl
 
 -- a walk that begins with nothing remembered
-pub reported : (T : Tables) (x : Rises → defined.Checked) {sets marks' : List ℕ} {r : DepthAnswer} {checked : Checked}
-    → Walkable sets (T .fragments) (replicate 64 0) 0 → Checks T (replicate 64 0) x checked marks' → Answers r (answered (meant checked)) → Answers r (answered (x []))
-reported T x w q a =
-    rw (q .checks [] (unmarked T (w .few)) .what, heard (x [])) at a
+pub reported : (fragments : List ℕ) (x : Rises → defined.Checked) {sets marks' : List ℕ} {r : DepthAnswer} {checked : Checked}
+    → Walkable sets fragments (replicate 64 0) 0 → Checks fragments (replicate 64 0) x checked marks' → Answers r (answered (meant checked)) → Answers r (answered (x []))
+reported fragments x w q a =
+    rw (q .checks [] (unmarked fragments (w .few)) .what, heard (x [])) at a
 
 module _ (T : Tables) {code : ℕ} (e : code ≡ tableCode T) where
   broken : (code ≡ 0 → ⊥) → lawful T ≡ false
@@ -55,6 +55,6 @@ module _ (T : Tables) {code : ℕ} (e : code ≡ tableCode T) where
   report-walkable z = walkable T (sound z)
 
   pub report-checked : {r : DepthAnswer} → code ≡ 0
-      → Answers r (answered (checkSet (documentOf (T .sets) (T .selections) (T .fragments)) 32 0 0 [])) → Answers r (depthReport T)
+      → Answers r (answered (checkSet (T .sets) (T .selections) (T .fragments) 32 0 0 [])) → Answers r (depthReport T)
   unfolding depthReport
-  report-checked z a = rw (sound z, set-same) a
+  report-checked z a = rw (sound z) a

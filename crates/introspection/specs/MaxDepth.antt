@@ -10,9 +10,9 @@ use Rattle.rows.specs.Document.{setAt, selectionAt}
 use Rattle.rows.specs.declared.document.FieldSelection.{FieldSelection}
 use Rattle.rows.specs.declared.layout.Optional.{Optional}
 use Rattle.rows.specs.declared.layout.Optional.the-variants.{Absent, Row}
-use Rattle.tables.specs.Tables.{Tables, tables}
+use Rattle.tables.specs.Tables.{Tables}
 use Rattle.graphql.specs.Lookup.{fragmentNamed}
-use Rattle.graphql.specs.Depth.{Rises, riseOf, DepthReport, childSet, checkField, checkSpread, checkSelected, checkSet}
+use Rattle.graphql.specs.Depth.{Rises, riseOf, DepthReport, depthReport, childSet, checkField, checkSpread, checkSelected, checkSet}
 use Rattle.graphql.specs.Depth as defined
 use Rattle.introspection.specs.declared.max_depth.DepthAnswer.{DepthAnswer}
 use Rattle.introspection.specs.declared.max_depth.Checked.{Checked}
@@ -24,9 +24,9 @@ pub record Answers (r : DepthAnswer) (report : DepthReport) : Type 0 where
   pub depth : r .depth ≡ report .depth'
   pub place : r .place ≡ report .place
 
--- The tables that the walk reads. The others have no part in it.
-abbrev pub documentOf : List ℕ → List ℕ → List ℕ → Tables
-documentOf sets selections fragments = tables [] [] [] [] [] [] [] sets selections [] fragments [] [] [] [] 0
+-- "Prove that two results allowed by it are equal"
+abbrev pub DepthCheckDetermined : Type 0
+DepthCheckDetermined = (T : Tables) (r r' : DepthAnswer) → Answers r (depthReport T) → Answers r' (depthReport T) → r ≡ r'
 
 abbrev pub rowOf : Option ℕ → Optional
 rowOf none = Absent
@@ -49,23 +49,23 @@ markOf none = 0
 markOf (some rise) = rise + 1
 
 -- the marks, one for each row of the fragments, say what is remembered by name
-pub record Marked (T : Tables) (marks : List ℕ) (rises : Rises) : Type 0 where
-  pub marked : (name row : ℕ) → fragmentNamed T name ≡ some row → getD marks row 0 ≡ markOf (riseOf name rises)
+pub record Marked (fragments : List ℕ) (marks : List ℕ) (rises : Rises) : Type 0 where
+  pub marked : (name row : ℕ) → fragmentNamed fragments name ≡ some row → getD marks row 0 ≡ markOf (riseOf name rises)
 
-abbrev pub Remembers : Tables → List ℕ → defined.Checked → Type 0
-Remembers T marks defined.tooManySets = Unit {0}
-Remembers T marks (defined.tooDeep place) = Unit {0}
-Remembers T marks (defined.depth d rises) = Marked T marks rises
+abbrev pub Remembers : List ℕ → List ℕ → defined.Checked → Type 0
+Remembers fragments marks defined.tooManySets = Unit {0}
+Remembers fragments marks (defined.tooDeep place) = Unit {0}
+Remembers fragments marks (defined.depth d rises) = Marked fragments marks rises
 
 -- the call came to x
-pub record Ends (T : Tables) (x : defined.Checked) (r : Checked) (marks' : List ℕ) : Type 0 where
+pub record Ends (fragments : List ℕ) (x : defined.Checked) (r : Checked) (marks' : List ℕ) : Type 0 where
   pub what : r ≡ said x
-  pub remembers : Remembers T marks' x
+  pub remembers : Remembers fragments marks' x
 
 -- whatever is remembered at the call, if the marks say so, the call comes to what the definition says
-pub record Checks (T : Tables) (marks : List ℕ) (x : Rises → defined.Checked) (r : Checked) (marks' : List ℕ) : Type 0 where
+pub record Checks (fragments : List ℕ) (marks : List ℕ) (x : Rises → defined.Checked) (r : Checked) (marks' : List ℕ) : Type 0 where
   pub kept : length marks' ≡ length marks
-  pub checks : (rises : Rises) → Marked T marks rises → Ends T (x rises) r marks'
+  pub checks : (rises : Rises) → Marked fragments marks rises → Ends fragments (x rises) r marks'
 
 -- what the walk rests on: selections are few, each fragment has a mark, and the depth so far was not refused
 pub record Walkable (sets fragments marks : List ℕ) (sofar : ℕ) : Type 0 where
@@ -76,24 +76,21 @@ pub record Walkable (sets fragments marks : List ℕ) (sofar : ℕ) : Type 0 whe
 
 -- what each function of the walk comes to, with `room` sets that may still be opened
 module _ (sets selections fragments marks : List ℕ) (room : ℕ) where
-  abbrev read : Tables
-  read = documentOf sets selections fragments
-
   abbrev open' : ℕ → ℕ → Rises → defined.Checked
-  open' = checkSet read room
+  open' = checkSet sets selections fragments room
 
   abbrev pub ChecksSet : (set sofar : ℕ) → Checked → List ℕ → Type 0
-  ChecksSet set sofar r marks' = Checks read marks (open' set sofar) r marks'
+  ChecksSet set sofar r marks' = Checks fragments marks (open' set sofar) r marks'
 
   abbrev pub ChecksSelection : (row sofar : ℕ) → Checked → List ℕ → Type 0
   ChecksSelection row sofar r marks' =
-      Checks read marks (checkSelected read open' sofar (selectionAt selections row .place) (selectionAt selections row .what)) r marks'
+      Checks fragments marks (checkSelected sets selections fragments open' sofar (selectionAt selections row .place) (selectionAt selections row .what)) r marks'
 
   abbrev pub ChecksField : (place : ℕ) → FieldSelection → (sofar : ℕ) → Checked → List ℕ → Type 0
-  ChecksField place field sofar r marks' = Checks read marks (checkField read open' sofar place field) r marks'
+  ChecksField place field sofar r marks' = Checks fragments marks (checkField sets selections fragments open' sofar place field) r marks'
 
   abbrev pub ChecksChild : FieldSelection → (depth : ℕ) → Checked → List ℕ → Type 0
-  ChecksChild field depth r marks' = Checks read marks (childSet read open' depth depth field) r marks'
+  ChecksChild field depth r marks' = Checks fragments marks (childSet sets selections fragments open' depth depth field) r marks'
 
   abbrev pub ChecksSpread : (place name sofar : ℕ) → Checked → List ℕ → Type 0
-  ChecksSpread place name sofar r marks' = Checks read marks (checkSpread read open' sofar place name (fragmentNamed read name)) r marks'
+  ChecksSpread place name sofar r marks' = Checks fragments marks (checkSpread sets selections fragments open' sofar place name (fragmentNamed fragments name)) r marks'

@@ -6,9 +6,10 @@ ghost use Prim.Native.Nat.{_<_, _-_, max};
 ghost use lib.Dec.{leb};
 ghost use lib.ListN.{replicate};
 ghost use Rattle.tables.specs.Tables.{tables};
+ghost use Rattle.rows.specs.Names.{'fields, 'inputFields};
 ghost use Rattle.graphql.specs.Lookup.{fragmentNamed};
 ghost use Rattle.graphql.specs.Depth.{checkSet, answered, depthReport};
-ghost use Rattle.introspection.specs.MaxDepth.{Answers, documentOf, rowOf, meant, Walkable, ChecksSet, ChecksSelection, ChecksField, ChecksChild, ChecksSpread};
+ghost use Rattle.introspection.specs.MaxDepth.{Answers, rowOf, meant, Walkable, ChecksSet, ChecksSelection, ChecksField, ChecksChild, ChecksSpread};
 use graphql::outcome::Outcome;
 use rows::document::FRAGMENT_WIDTH;
 use rows::document::FieldSelection;
@@ -64,14 +65,14 @@ fn rise(depth_so_far: u32, depth: u32) -> u32
 }
 
 fn is_list(name: u32) -> bool
-    ensures { λ r. ⌜ r ≡ (leb 8 name && leb name 11) ⌝ }
+    ensures { λ r. ⌜ r ≡ (leb 'fields name && leb name 'inputFields) ⌝ }
 {
     both(FIRST_LIST <= name, name <= LAST_LIST)
 }
 
 // The first fragment of this name.
 fn find_fragment(fragments: &[u32], name: u32) -> Optional
-    ensures { λ r. ⌜ r ≡ rowOf (fragmentNamed (documentOf [] [] (now (fragments .entry))) name) ⌝ }
+    ensures { λ r. ⌜ r ≡ rowOf (fragmentNamed (now (fragments .entry)) name) ⌝ }
 {
     let count = row_count(fragments, FRAGMENT_WIDTH);
     let mut row: u32 = 0;
@@ -297,7 +298,7 @@ fn answer(checked: Checked) -> DepthAnswer
 // The depth of lawful tables' sets, from the operation's on.
 fn depth_of_operation(sets: &[u32], selections: &[u32], fragments: &[u32]) -> DepthAnswer
     requires { ⌜ Walkable (now sets) (now fragments) (replicate 64 0) 0 ⌝ }
-    ensures { λ r. ⌜ Answers r (answered (checkSet (documentOf (now (sets .entry)) (now (selections .entry)) (now (fragments .entry))) 32 0 0 [])) ⌝ }
+    ensures { λ r. ⌜ Answers r (answered (checkSet (now (sets .entry)) (now (selections .entry)) (now (fragments .entry)) 32 0 0 [])) ⌝ }
 {
     let mut marks = [0u64; 64];
     answer(check_selection_set(sets, selections, fragments, &mut marks, MAX_OPEN_SETS, 0, 0))

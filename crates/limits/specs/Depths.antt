@@ -3,7 +3,8 @@
 use mathlib.Core.List.{List, [], _∷_, _++_}
 use Prim.Native.Nat.{ℕ, zero, suc}
 use Prim.Native.String.{String}
-use Rattle.graphql.specs.Kit.{'schema, 'fields, 'interfaces, 'Query, 'f, 'Nope, 'F, 'G, Row, Kit, sets, selections, fragments, answers, selection, set, if-false, if-true, select, ask, askIn, spread, inline, inlineOn, fragment, objectAnswer, :Any, over, DepthCase}
+use Rattle.rows.specs.Names.{'schema, 'fields, 'interfaces}
+use Rattle.graphql.specs.Kit.{'Query, 'f, 'Nope, 'F, 'G, Row, Kit, sets, selections, fragments, answers, selection, set, if-false, if-true, select, ask, askIn, spread, inline, inlineOn, fragment, objectAnswer, :Any, over, DepthCase}
 use Rattle.limits.specs.Runs.{inlineChain}
 
 -- a document: sets, selections and fragments

@@ -4,8 +4,9 @@ use mathlib.Core.List.{List, [], _∷_, _++_}
 use Prim.Native.Nat.{ℕ, zero, suc, _+_}
 use Prim.Native.String.{String}
 use Rattle.rows.specs.Ascii.{ascii}
-use Rattle.graphql.specs.Run.{Segment, name, index, Path, Choices}
-use Rattle.graphql.specs.Kit.{'typename, 'schema, 'Query, 'f, 'g, 'a, 'b, 'x, 'y, 'v, 'O, 'F, 'G, Row, Kit, refs, queries, arguments, sets, selections, given, fragments, nodes, literals, variables, answers, selection, literal, listOf, field, fieldWith, argument, argumentBy, set, if-true, select, ask, askIn, askWith, spread, inline, inlineOn, fragment, giving, nullLiteral, intLiteral, listLiteral, objectLiteral, variable, under, nullNode, wholeNumber, stringNode, arrayNode, skips, errs, leafOf, listAnswer, objectAnswer, echoes, :Int, :Int!, :[Int!], :String, :String!, :Any, :[Any], :O, :[O], :P, :Nope, ownRef, over, one, echo, echoDefault, v-is, Expected, Case, error, fFails, answered, refusedAt, refuses}
+use Rattle.graphql.specs.Run.{Segment, name, index, Path, Choices, ErrorRecord}
+use Rattle.rows.specs.Names.{'typename, 'schema}
+use Rattle.graphql.specs.Kit.{'Query, 'f, 'g, 'a, 'b, 'x, 'y, 'v, 'O, 'F, 'G, Row, Kit, refs, queries, arguments, sets, selections, given, fragments, nodes, literals, variables, answers, selection, literal, listOf, field, fieldWith, argument, argumentBy, set, if-true, select, ask, askIn, askWith, spread, inline, inlineOn, fragment, giving, nullLiteral, intLiteral, listLiteral, objectLiteral, variable, under, nullNode, wholeNumber, stringNode, arrayNode, skips, errs, leafOf, listAnswer, objectAnswer, echoes, :Int, :Int!, :[Int!], :String, :String!, :Any, :[Any], :O, :[O], :P, :Nope, ownRef, over, one, echo, echoDefault, v-is, Case, error, fFails, answered, refusedAt, refuses}
 
 module _ {A : Type 0} where
   abbrev pub copies : ℕ → A → List A
@@ -18,7 +19,7 @@ bracketed zero opens inner closes = ascii inner
 bracketed (suc n) opens inner closes = ascii opens ++ (bracketed n opens inner closes ++ ascii closes)
 
 -- answered 0 with this text and these errors
-abbrev within : String → Kit → (textRoom errorRoom : ℕ) → List ℕ → List Expected → Case
+abbrev within : String → Kit → (textRoom errorRoom : ℕ) → List ℕ → List ErrorRecord → Case
 within label kit textRoom errorRoom text errors = record {
   label = label;
   kit = kit;

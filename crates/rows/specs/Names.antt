@@ -21,3 +21,40 @@ abbrev pub reserved : List String
 reserved =
     "__typename" ∷ "Int" ∷ "Float" ∷ "String" ∷ "Boolean" ∷ "ID"
     ∷ "__schema" ∷ "__type" ∷ "fields" ∷ "interfaces" ∷ "possibleTypes" ∷ "inputFields" ∷ []
+
+-- their rows
+abbrev pub 'typename : ℕ
+'typename = 0
+
+abbrev pub 'Int : ℕ
+'Int = 1
+
+abbrev pub 'Float : ℕ
+'Float = 2
+
+abbrev pub 'String : ℕ
+'String = 3
+
+abbrev pub 'Boolean : ℕ
+'Boolean = 4
+
+abbrev pub 'ID : ℕ
+'ID = 5
+
+abbrev pub 'schema : ℕ
+'schema = 6
+
+abbrev pub 'type : ℕ
+'type = 7
+
+abbrev pub 'fields : ℕ
+'fields = 8
+
+abbrev pub 'interfaces : ℕ
+'interfaces = 9
+
+abbrev pub 'possibleTypes : ℕ
+'possibleTypes = 10
+
+abbrev pub 'inputFields : ℕ
+'inputFields = 11

@@ -154,7 +154,7 @@ fn owned_of(kind: u32, set: u32) -> Optional
 }
 
 // The set that a selection owns.
-fn owned_set(selections: &[u32], row: usize) -> Optional
+pub fn owned_set(selections: &[u32], row: usize) -> Optional
     requires { ⌜ row < 2 ^ 40 ⌝ }
     ensures { λ r. ⌜ r ≡ ownedSet (now (selections .entry)) row ⌝ }
 {

@@ -20,7 +20,7 @@ use rows::strings::is_same;
 use rows::strings::text_of;
 
 // The children of an object; any other node has no keys.
-fn object_rows(node: Node) -> Range
+pub fn object_rows(node: Node) -> Range
     ensures { λ r. ⌜ r ≡ objectRows node ⌝ }
 {
     if let Node::Object(rows) = node {

@@ -90,7 +90,7 @@ fn is_new_by_marks(
 }
 
 // No two rows of the range have the same word in the column.
-pub(crate) fn is_distinct(t: &[u32], width: usize, column: usize, rows: Range) -> bool
+pub fn is_distinct(t: &[u32], width: usize, column: usize, rows: Range) -> bool
     requires { ⌜ (width ≤ 16) × (column < 16) ⌝ }
     ensures { λ r. ⌜ r ≡ distinct (now (t .entry)) width column rows ⌝ }
 {

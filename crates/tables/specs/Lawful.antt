@@ -15,6 +15,10 @@ lawful T = rowsLawful T && defaultsClosed (T .fields) (T .arguments) (T .literal
 unfoldable pub tableCode : Tables → ℕ
 tableCode T = cond (lawful T) 0 1
 
--- "Text buffer 0 to 65,536 bytes, error buffer 0 to 16,384 words, choices up to 4,096."
-unfoldable pub lawfulBuffers : ℕ → ℕ → ℕ → Bool
-lawfulBuffers text errors choices = leb text mostTextBytes && (leb errors mostErrorWords && leb choices mostChoices)
+-- "Text buffer 0 to 65,536 bytes, error buffer 0 to 16,384 words"
+unfoldable pub lawfulBuffers : (text errors : ℕ) → Bool
+lawfulBuffers text errors = leb text mostTextBytes && leb errors mostErrorWords
+
+-- "choices up to 4,096"
+unfoldable pub lawfulChoices : ℕ → Bool
+lawfulChoices choices = leb choices mostChoices

@@ -3,7 +3,7 @@ ghost use mathlib.Core.Path.{_≡_};
 ghost use Rattle.tables.specs.Tables.{tables};
 ghost use Rattle.tables.specs.Rules.{rowsLawful};
 ghost use Rattle.tables.specs.Broken.{isNowhere};
-ghost use Rattle.tables.specs.Lawful.{tableCode, lawfulBuffers};
+ghost use Rattle.tables.specs.Lawful.{tableCode, lawfulBuffers, lawfulChoices};
 use crate::broken::Broken;
 use crate::broken::first_broken;
 use crate::defaults::defaults_are_closed;
@@ -122,9 +122,15 @@ pub fn table_check(
     LAWFUL
 }
 
-// The rule on what else a run is lent: a text buffer, an error buffer and choices, by their lengths.
-pub fn buffers_are_lawful(text: usize, errors: usize, choices: usize) -> bool
-    ensures { λ r. ⌜ r ≡ lawfulBuffers text errors choices ⌝ }
+// The rules on what else a run is lent: a text buffer, an error buffer and choices, by their lengths.
+pub fn buffers_are_lawful(text: usize, errors: usize) -> bool
+    ensures { λ r. ⌜ r ≡ lawfulBuffers text errors ⌝ }
 {
-    (text <= MOST_TEXT_BYTES) & ((errors <= MOST_ERROR_WORDS) & (choices <= MOST_CHOICES))
+    (text <= MOST_TEXT_BYTES) & (errors <= MOST_ERROR_WORDS)
+}
+
+pub fn choices_are_lawful(choices: usize) -> bool
+    ensures { λ r. ⌜ r ≡ lawfulChoices choices ⌝ }
+{
+    choices <= MOST_CHOICES
 }

@@ -1,4 +1,5 @@
 -- What the proofs of `utf8` cite.
 mod Octets
 mod Sequences
+pub mod Parts
 mod Decoding

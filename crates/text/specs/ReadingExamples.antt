@@ -1,10 +1,23 @@
--- Worked examples: what the definitions of Utf8, Names and Numbers say of a text that is written out, by computation.
+-- Worked examples: what the definitions of Ascii, Utf8, Names and Numbers say of a text that is written out, by computation.
 use mathlib.Core.Path.{_≡_, refl}
 use mathlib.Core.Bool.{true, false}
 use mathlib.Core.List.{[], _∷_}
-use Rattle.text.specs.Utf8.{isUtf8, octetsAfter, characterNumber}
+use Rattle.text.specs.Ascii.{isAscii}
+use Rattle.text.specs.Utf8.{isUtf8, octetsAfter, isBoundary, characterNumber}
 use Rattle.text.specs.Names.{isName, allNameContinue, NameStart, NameContinue}
 use Rattle.text.specs.Numbers.{isFloat, fracOrExp, int, frac, exp, sign, zero, plus, minus, e, digit1-9, decimal-point, digits, digits1}
+
+-- ---- US-ASCII
+
+-- DEL, the last
+last-of-ascii : isAscii (0x41 ∷ 0x7F ∷ []) ≡ true
+unfolding isAscii
+last-of-ascii = refl
+
+-- U+0080 in UTF-8
+after-ascii : isAscii (0x41 ∷ 0xC2 ∷ 0x80 ∷ []) ≡ false
+unfolding isAscii
+after-ascii = refl
 
 -- ---- UTF-8
 
@@ -17,6 +30,16 @@ empty-text = refl
 rfc-example : isUtf8 (0x41 ∷ 0xE2 ∷ 0x89 ∷ 0xA2 ∷ 0xCE ∷ 0x91 ∷ 0x2E ∷ []) ≡ true
 unfolding isUtf8 octetsAfter
 rfc-example = refl
+
+-- after the A, after the first octet of U+2262, and at the end
+boundary-between : isBoundary (0x41 ∷ 0xE2 ∷ 0x89 ∷ 0xA2 ∷ []) 1 ≡ true
+boundary-between = refl
+
+no-boundary-inside : isBoundary (0x41 ∷ 0xE2 ∷ 0x89 ∷ 0xA2 ∷ []) 2 ≡ false
+no-boundary-inside = refl
+
+boundary-at-the-end : isBoundary (0x41 ∷ 0xE2 ∷ 0x89 ∷ 0xA2 ∷ []) 4 ≡ true
+boundary-at-the-end = refl
 
 -- U+0080, the first of two octets
 least-of-two : isUtf8 (0xC2 ∷ 0x80 ∷ []) ≡ true

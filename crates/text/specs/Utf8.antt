@@ -4,6 +4,7 @@ use mathlib.Core.List.{List, [], _∷_, _++_}
 use mathlib.Core.Option.{Option, none, some}
 use Prim.Native.Nat.{ℕ, _+_, _-_, _*_, _%_, _^_, _≤_, _<_}
 use lib.Dec.{leb, eqb}
+use lib.ListN.{getD}
 use Rattle.text.specs.Grammar.{Range, _to_, _∈_, ifSome}
 
 -- ---- Section 4, the ABNF
@@ -62,6 +63,10 @@ octetsAfter (b ∷ s) (range ∷ ranges) = (b ∈ range) && octetsAfter s ranges
 -- UTF8-octets = *( UTF8-char )
 unfoldable pub isUtf8 : List ℕ → Bool
 isUtf8 s = octetsAfter s []
+
+-- A position at which no continuation octet stands: where a character begins, or the text ends.
+abbrev pub isBoundary : List ℕ → ℕ → Bool
+isBoundary s at = not (getD s at 0 ∈ UTF8-tail)
 
 -- ---- Section 3, the octet sequences of the characters
 

@@ -1,11 +1,13 @@
 // Well-formed UTF-8 (RFC 3629). A character is decoded as section 3 of the RFC says, and refused where its code point
 // is one that its sequence must not spell; that this is the ABNF of section 4 is what `is_utf8` ensures.
 ghost use mathlib.Core.Path.{_≡_};
-ghost use Prim.Native.Nat.{_+_, _*_, _%_, _<_, _^_};
-ghost use lib.ListN.{length};
+ghost use mathlib.Core.Bool.{true};
+ghost use Prim.Native.Nat.{_+_, _-_, _*_, _%_, _≤_, _<_, _^_};
+ghost use lib.ListN.{length, getD, take, drop};
 ghost use Rattle.text.specs.Grammar.{_∈_};
-ghost use Rattle.text.specs.Utf8.{UTF8-tail, isUtf8, Leads, leadBits, leastFor, allowed};
+ghost use Rattle.text.specs.Utf8.{UTF8-tail, isUtf8, isBoundary, Leads, leadBits, leastFor, allowed};
 ghost use Rattle.text.specs.Found.{Decodes};
+use crate::ascii::past_ascii;
 
 // What stands at a position of a text.
 enum Decoded {
@@ -84,27 +86,18 @@ fn is_allowed(point: u32, size: usize) -> bool
     point <= 0x10_ffff
 }
 
-// The character at `at`.
-fn decode(s: &[u8], at: usize) -> Decoded
+// The character of `size` bytes at `at`, as its first byte says.
+fn decode_sequence(s: &[u8], at: usize, size: usize) -> Decoded
     requires { ⌜ at < length (now s) ⌝ }
+    requires { ⌜ Leads (getD (now s) at 0) size ⌝ }
+    requires { ⌜ 0 < size ⌝ }
     ensures { λ r. ⌜ Decodes (now (s .entry)) at r ⌝ }
 {
-    let lead = s[at];
-    if lead < 0x80 {
-        return Decoded::Char {
-            point: wide(lead),
-            next: at + 1,
-        };
-    }
-    let size = sequence_length(lead);
-    if size == 0 {
-        return Decoded::Bad;
-    }
     if s.len() - at < size {
         return Decoded::Bad;
     }
     let end = at + size;
-    let mut point = lead_bits(lead, size);
+    let mut point = lead_bits(s[at], size);
     let mut i = at + 1;
     while i < end {
         let byte = s[i];
@@ -120,20 +113,66 @@ fn decode(s: &[u8], at: usize) -> Decoded
     Decoded::Bad
 }
 
+// The character at `at`, of more than one byte. Each length is named, so that the compiler makes straight code for it.
+fn decode(s: &[u8], at: usize) -> Decoded
+    requires { ⌜ at < length (now s) ⌝ }
+    requires { ⌜ 0x80 ≤ getD (now s) at 0 ⌝ }
+    ensures { λ r. ⌜ Decodes (now (s .entry)) at r ⌝ }
+{
+    let size = sequence_length(s[at]);
+    match size {
+        2 => decode_sequence(s, at, 2),
+        3 => decode_sequence(s, at, 3),
+        4 => decode_sequence(s, at, 4),
+        _ => Decoded::Bad,
+    }
+}
+
 // Whether `s` is well-formed UTF-8.
 pub fn is_utf8(s: &[u8]) -> bool
     ensures { λ r. ⌜ r ≡ isUtf8 (now (s .entry)) ⌝ }
 {
     let mut at = 0;
     while at < s.len() {
-        match decode(s, at) {
-            Decoded::Char { point: _, next } => {
-                at = next;
-            }
-            Decoded::Bad => {
-                return false;
+        if s[at] < 0x80 {
+            at = past_ascii(s, at);
+        } else {
+            match decode(s, at) {
+                Decoded::Char { point: _, next } => {
+                    at = next;
+                }
+                Decoded::Bad => {
+                    return false;
+                }
             }
         }
     }
     true
+}
+
+// Whether a character begins at `at`, or the text ends there.
+fn is_boundary(s: &[u8], at: usize) -> bool
+    requires { ⌜ at ≤ length (now s) ⌝ }
+    ensures { λ r. ⌜ r ≡ isBoundary (now (s .entry)) at ⌝ }
+{
+    if at == s.len() {
+        return true;
+    }
+    !is_tail(s[at])
+}
+
+// Whether the part of `pool` from `start` up to `end` is well-formed UTF-8, where all of it is: two looks, whatever the length.
+pub fn is_part_utf8(pool: &[u8], start: usize, end: usize) -> bool
+    requires { ⌜ isUtf8 (now pool) ≡ true ⌝ }
+    requires { ⌜ start ≤ end ⌝ }
+    requires { ⌜ end ≤ length (now pool) ⌝ }
+    ensures { λ r. ⌜ r ≡ isUtf8 (take (end - start) (drop start (now (pool .entry)))) ⌝ }
+{
+    if start == end {
+        return true;
+    }
+    if !is_boundary(pool, start) {
+        return false;
+    }
+    is_boundary(pool, end)
 }

@@ -3,11 +3,11 @@
 use mathlib.Core.List.{List, [], _∷_, _++_}
 use Prim.Native.Nat.{ℕ, zero, suc}
 use Prim.Native.String.{String}
-use Rattle.graphql.specs.Run.{name, index}
-use Rattle.graphql.specs.Kit.{'Query, 'f, 'g, 'a, 'b, 'x, 'y, 'v, 'O, 'R, 'I, 'E, 'Nope, one-and-a-half, Row, Kit, refs, queries, arguments, sets, selections, nodes, answers, selection, definition, literal, listOf, field, fieldWith, argument, set, ask, askIn, nullLiteral, intLiteral, listLiteral, objectLiteral, variable, under, nullNode, falseNode, trueNode, wholeNumber, negativeNumber, floatNode, stringNode, escapedNode, arrayNode, objectNode, underText, errs, leafOf, listAnswer, objectAnswer, echoes, :Int, :Int!, :[Int!], :Float, :String, :Boolean, :ID, :Any, :E, :O, :[O], :I, :U, :P, :Nope, ownRef, over, one, echo, v-is, Expected, Case, error, fFails, answered}
+use Rattle.graphql.specs.Run.{name, index, ErrorRecord}
+use Rattle.graphql.specs.Kit.{'Query, 'f, 'g, 'a, 'b, 'x, 'y, 'v, 'O, 'R, 'I, 'E, 'Nope, one-and-a-half, Row, Kit, refs, queries, arguments, sets, selections, nodes, answers, selection, definition, literal, listOf, field, fieldWith, argument, set, ask, askIn, nullLiteral, intLiteral, listLiteral, objectLiteral, variable, under, nullNode, falseNode, trueNode, wholeNumber, negativeNumber, floatNode, stringNode, escapedNode, arrayNode, objectNode, underText, errs, leafOf, listAnswer, objectAnswer, echoes, :Int, :Int!, :[Int!], :Float, :String, :Boolean, :ID, :Any, :E, :O, :[O], :I, :U, :P, :Nope, ownRef, over, one, echo, v-is, Case, error, fFails, answered}
 
 -- an error at an item of f
-abbrev itemFails : ℕ → (item : ℕ) → Expected
+abbrev itemFails : ℕ → (item : ℕ) → ErrorRecord
 itemFails code item = error code (selection 0) (name 'f ∷ index item ∷ [])
 
 -- f answers a list at `[T]`: its items are the answers from row 2 on

@@ -5,7 +5,8 @@ use mathlib.Core.List.{List, [], _∷_, _++_}
 use Prim.Native.Nat.{ℕ, zero, suc}
 use Prim.Native.String.{String}
 use Rattle.graphql.specs.Run.{name, index}
-use Rattle.graphql.specs.Kit.{'typename, 'Query, 'f, 'g, 'a, 'b, 'x, 'y, 'v, 'Any, 'O, 'R, 'I, 'U, 'Nope, 'F, 'G, one-and-a-half, ten-to-400, Row, Kit, queries, arguments, sets, selections, given, fragments, nodes, literals, variables, answers, selection, definition, literal, field, fieldWith, argument, argumentBy, set, if-false, if-true, if$, select, ask, askIn, askWith, spread, inline, inlineOn, fragment, giving, nullLiteral, intLiteral, floatLiteral, stringLiteral, listLiteral, objectLiteral, enumLiteral, variable, under, nullNode, falseNode, trueNode, wholeNumber, stringNode, arrayNode, skips, errs, leafOf, listAnswer, objectAnswer, echoes, :Int, :Int!, :[Int], :[Int!], :[Int]!, :[Int!]!, :[[Int]], :[[Int]!], :Float, :String!, :Any, :[Any], :E, :O, :I, :U, :P, :[P], :Nope, :[Nope], schemaWithoutString, over, one, echo, echoDefault, v-is, Case, error, fFails, answered, refuses}
+use Rattle.rows.specs.Names.{'typename}
+use Rattle.graphql.specs.Kit.{'Query, 'f, 'g, 'a, 'b, 'x, 'y, 'v, 'Any, 'O, 'R, 'I, 'U, 'Nope, 'F, 'G, one-and-a-half, ten-to-400, Row, Kit, queries, arguments, sets, selections, given, fragments, nodes, literals, variables, answers, selection, definition, literal, field, fieldWith, argument, argumentBy, set, if-false, if-true, if$, select, ask, askIn, askWith, spread, inline, inlineOn, fragment, giving, nullLiteral, intLiteral, floatLiteral, stringLiteral, listLiteral, objectLiteral, enumLiteral, variable, under, nullNode, falseNode, trueNode, wholeNumber, stringNode, arrayNode, skips, errs, leafOf, listAnswer, objectAnswer, echoes, :Int, :Int!, :[Int], :[Int!], :[Int]!, :[Int!]!, :[[Int]], :[[Int]!], :Float, :String!, :Any, :[Any], :E, :O, :I, :U, :P, :[P], :Nope, :[Nope], schemaWithoutString, over, one, echo, echoDefault, v-is, Case, error, fFails, answered, refuses}
 
 -- ---- types, lists, leaves
 

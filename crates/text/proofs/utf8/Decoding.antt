@@ -1,20 +1,24 @@
 -- A sequence while its continuation octets are read: what is still to come decides as `completes` says, and each octet that is
--- read is taken off its front. One law for each way through `decode` and `is_utf8`.
+-- read is taken off its front. One law for each way through `decode_sequence`, `decode` and `is_utf8`.
 -- Assumes nothing.
 use mathlib.Core.Path.{_≡_, refl, sym, ap, _∙_, subst}
-use mathlib.Core.Bool.{Bool, true, false, not, _&&_, and-false}
+use mathlib.Core.Bool.{Bool, true, false, not, _&&_, and-false, true≢false}
+use mathlib.Core.Logic.{⊎-elim}
 use mathlib.Core.List.{List, [], _∷_}
 use Prim.Native.Nat.{ℕ, zero, suc, _+_, _-_, _*_, _%_, _^_, _≤_, _<_}
 use native.Mathlib.Omega.{arith}
-use borrow.Author.Tests.{not-true, not-false}
-use lib.ListN.{length, getD, take, drop, length-drop}
+use borrow.Author.Tests.{lt-ltb, not-true, not-false}
+use lib.ListN.{length, getD, take, drop, length-drop, take-append-drop}
+use lib.Seq.{drop-drop}
 use Rattle.text.specs.Grammar.{_∈_}
 use Rattle.text.specs.Utf8.{UTF8-tail, isUtf8, octetsAfter, Leads, two, three, four, single, beyond, leadBits, allowed, characterNumber}
-use Rattle.text.specs.Found.{ReadChar, Decodes}
+use Rattle.text.specs.Ascii.{isAscii}
+use Rattle.text.specs.Found.{PastAscii, ReadChar, Decodes}
 use Rattle.text.specs.declared.utf8.Decoded.{Decoded}
 use Rattle.text.specs.declared.utf8.Decoded.the-variants.{Char, Bad}
-use Rattle.text.proofs.Reading.{drop-here, drop-over}
-use Rattle.text.proofs.utf8.Sequences.{completes, sequence, no-sequence, single-octet}
+use Rattle.text.proofs.Reading.{drop-here, drop-over, le-or-lt}
+use Rattle.text.proofs.utf8.Sequences.{completes, sequence, no-sequence}
+use Rattle.text.proofs.utf8.Parts.{ascii-before}
 
 -- the number that p and the continuation octets after it spell
 unfoldable pub appended : ℕ → List ℕ → ℕ
@@ -95,7 +99,7 @@ completes-short n (suc k) p [] h = refl
 completes-short n (suc k) p (b ∷ t) h =
     ap (λ (x : Bool). (b ∈ UTF8-tail) && x) (completes-short n k (p * 64 + b % 64) t (omega arith)) ∙ and-false (b ∈ UTF8-tail)
 
--- ---- the ways through `decode`
+-- ---- the ways through `decode_sequence`
 
 pub leads-small : (a n : ℕ) → Leads a n → n < 7
 leads-small a n (two h k) = omega arith
@@ -105,22 +109,10 @@ leads-small a n (single h) = omega arith
 leads-small a n (beyond h) = omega arith
 
 module _ (s : List ℕ) (at : ℕ) (inside : at < length s) where
-  pub read-single : (p : ℕ) → p ≡ getD s at 0 → getD s at 0 < 0x80 → ReadChar s at p (at + 1)
-  unfolding characterNumber
-  read-single p e h =
-      let here = drop-here s at inside in
-      let one : at + 1 - at ≡ 1 = omega arith in
-      record {
-        further = omega arith;
-        inside = omega arith;
-        number = rw (one, here) e;
-        same = ap isUtf8 here ∙ single-octet (getD s at 0) (drop (at + 1) s) h;
-      }
+  module _ (n : ℕ) (leads : Leads (getD s at 0) n) (led : 0 < n) where
+    many : n ≡ 0 → ⊥
+    many e = omega arith
 
-  pub read-no-lead : (n : ℕ) → Leads (getD s at 0) n → n ≡ 0 → 0x80 ≤ getD s at 0 → isUtf8 (drop at s) ≡ false
-  read-no-lead n l e h = ap isUtf8 (drop-here s at inside) ∙ no-sequence (getD s at 0) n (drop (at + 1) s) l e h
-
-  module _ (n : ℕ) (leads : Leads (getD s at 0) n) (many : n ≡ 0 → ⊥) where
     from-lead : isUtf8 (drop at s) ≡ completes n (n - 1) (leadBits n (getD s at 0)) (drop (at + 1) s)
     from-lead = ap isUtf8 (drop-here s at inside) ∙ sequence (getD s at 0) n (drop (at + 1) s) leads many
 
@@ -191,7 +183,45 @@ module _ (s : List ℕ) (at n p i : ℕ) (half : Half s at n p i) where
     unfolding completes
     read-not-allowed t = half .same ∙ rw (none-left, ← e, t)
 
+-- ---- the ways through `decode`
+
+pub leads-as : (a n m : ℕ) → Leads a n → n ≡ m → Leads a m
+leads-as a n m l e = rw e at l
+
+led-none : (a n : ℕ) → Leads a n → (n ≡ 2 → ⊥) → (n ≡ 3 → ⊥) → (n ≡ 4 → ⊥) → n ≡ 0
+led-none a n (two h k) n2 n3 n4 = absurd (n2 refl)
+led-none a n (three h k) n2 n3 n4 = absurd (n3 refl)
+led-none a n (four h k) n2 n3 n4 = absurd (n4 refl)
+led-none a n (single h) n2 n3 n4 = refl
+led-none a n (beyond h) n2 n3 n4 = refl
+
+pub read-no-lead : (s : List ℕ) (at n : ℕ) → at < length s → Leads (getD s at 0) n → (n ≡ 2 → ⊥) → (n ≡ 3 → ⊥) → (n ≡ 4 → ⊥) → 0x80 ≤ getD s at 0
+    → isUtf8 (drop at s) ≡ false
+read-no-lead s at n inside l n2 n3 n4 h =
+    ap isUtf8 (drop-here s at inside) ∙ no-sequence (getD s at 0) n (drop (at + 1) s) l (led-none (getD s at 0) n l n2 n3 n4) h
+
 -- ---- the ways through `is_utf8`
+
+module _ (s : List ℕ) (at next : ℕ) (past : PastAscii s 1 at next) where
+  pub utf8-past : isUtf8 s ≡ isUtf8 (drop at s) → isUtf8 s ≡ isUtf8 (drop next s)
+  utf8-past inv =
+      let start : at + (next - at) ≡ next = omega arith in
+      inv ∙ ap isUtf8 (sym (take-append-drop (next - at) (drop at s)))
+      ∙ ascii-before (take (next - at) (drop at s)) (drop (next - at) (drop at s)) (past .passed .ascii)
+      ∙ rw (drop-drop (next - at) at s, start)
+
+  -- an octet of US-ASCII is passed
+  pub utf8-past-nearer : at < length s → getD s at 0 < 0x80 → length s - next < length s - at
+  unfolding isAscii
+  utf8-past-nearer h low =
+      ⊎-elim
+      (λ (p : next ≤ at).
+      let e : next ≡ at = omega arith in
+      let other : isAscii (take 1 (drop at s)) ≡ false = rw e at (past .stopped (omega arith)) in
+      let z : _≡_ {A = Bool} true false = sym (rw (drop-here s at h, lt-ltb (getD s at 0) 0x80 low)) ∙ other in
+      absurd (true≢false z))
+      (λ (p : at < next). omega arith)
+      (le-or-lt next at)
 
 module _ (s : List ℕ) (at : ℕ) (found : Decoded) (decodes : Decodes s at found) where
   module _ (point next : ℕ) (e : found ≡ Char point next) where

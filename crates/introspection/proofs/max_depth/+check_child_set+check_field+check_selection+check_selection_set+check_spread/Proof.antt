@@ -2,7 +2,6 @@
 use Prim.Native.Nat.{_+_, _*_, _-_}
 use native.Mathlib.Omega.{arith}
 use borrow.Author.Needs.{needs}
-use Rattle.introspection.specs.MaxDepth.{documentOf}
 use Rattle.introspection.proofs.Walk.{Going, field-deep, walking}
 use Prim.Native.Nat.{ℕ, _<_}
 use borrow.Fn.Kinds.{In}
@@ -123,7 +122,7 @@ check-spread-below t =
 
 abbrev check-selection-set-Inv-loop : check-selection-set-lts.InvT-loop
 check-selection-set-Inv-loop sets selections fragments marks₀ room set depth-so-far first count max-depth₀ i₀ marks max-depth i =
-    Going (documentOf sets selections fragments) (room - 1) depth-so-far first count marks₀ marks max-depth i
+    Going sets selections fragments (room - 1) depth-so-far first count marks₀ marks max-depth i
 
 abbrev check-selection-set-μ-loop : check-selection-set-lts.MeasureT-loop
 check-selection-set-μ-loop sets selections fragments marks₀ room set depth-so-far first count max-depth₀ i₀ marks max-depth i =
@@ -159,7 +158,7 @@ pub +check-child-set+check-field+check-selection+check-selection-set+check-sprea
     (λ c. search walk)
     (λ c. search walk)
     (λ c. search walk)
-    (λ c. field-deep _ _ _ _ _ (c .before .before .is-list .ensures) (c .before .if1 .left) (omega arith))
+    (λ c. field-deep _ _ _ _ _ _ _ (c .before .before .is-list .ensures) (c .before .if1 .left) (omega arith))
     (λ c κs. search walk)
     (λ c. search walk)
     (λ c. search walk))

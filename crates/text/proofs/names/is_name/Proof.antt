@@ -1,5 +1,4 @@
--- `text::names::is_name` meets its contract. The loop keeps that the text is a name just if what is left from `i` on is all NameContinue.
--- Assumes nothing.
+-- A text is a name just if what is left of it, behind a NameStart and any number of NameContinue, is all NameContinue. Assumes nothing.
 use mathlib.Core.Path.{_≡_}
 use Prim.Native.Nat.{_-_}
 use lib.ListN.{length, drop}

@@ -1,5 +1,4 @@
--- `text::names::is_name_continue` meets its contract: NameContinue is NameStart or Digit.
--- Assumes nothing.
+-- NameContinue is NameStart or Digit. Assumes nothing.
 use Rattle.text.proofs.names.Spelled.{continue-start, continue-digit, continue-none}
 use borrow.Author.Needs.{needs}
 use Rattle.text.proofs.names.is_name_continue.Statement.{statement}

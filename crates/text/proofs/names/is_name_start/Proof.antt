@@ -1,5 +1,4 @@
--- `text::names::is_name_start` meets its contract: what each test says of the octet decides the ranges of Letter.
--- Assumes nothing.
+-- A Letter is an octet of one of two ranges. Assumes nothing.
 use Rattle.text.proofs.names.Spelled.{start-underscore, start-small, start-capital, start-none}
 use Rattle.text.proofs.names.is_name_start.Statement.{statement}
 use Rattle.text.proofs.names.is_name_start.Tie as tie

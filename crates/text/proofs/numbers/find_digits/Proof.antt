@@ -1,5 +1,4 @@
--- `text::numbers::find_digits` meets its contract: a digit, and then all the digits that follow it.
--- Assumes nothing.
+-- 1*DIGIT is a digit, and then all the digits that follow it. Assumes nothing.
 use Rattle.text.proofs.numbers.Parts.{no-digits1, digits1-there, digits1-absent}
 use borrow.Author.Needs.{needs}
 use Rattle.text.proofs.numbers.find_digits.Statement.{statement}

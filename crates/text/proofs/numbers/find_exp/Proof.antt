@@ -1,5 +1,4 @@
--- `text::numbers::find_exp` meets its contract: an e, and then what `find_digits` finds past the sign.
--- Assumes nothing.
+-- An exp is an e, a sign or none, and digits. Assumes nothing.
 use Rattle.text.proofs.numbers.Parts.{no-exp, exp-there, exp-absent}
 use borrow.Author.Needs.{needs}
 use Rattle.text.proofs.numbers.find_exp.Statement.{statement}

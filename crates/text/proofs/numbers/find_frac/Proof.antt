@@ -1,5 +1,4 @@
--- `text::numbers::find_frac` meets its contract: a decimal point, and then what `find_digits` finds.
--- Assumes nothing.
+-- A frac is a decimal point and digits. Assumes nothing.
 use Rattle.text.proofs.numbers.Parts.{no-frac, frac-there, frac-absent}
 use borrow.Author.Needs.{needs}
 use Rattle.text.proofs.numbers.find_frac.Statement.{statement}

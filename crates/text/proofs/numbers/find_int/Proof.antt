@@ -1,5 +1,4 @@
--- `text::numbers::find_int` meets its contract: digits that do not begin with a zero begin with a digit1-9.
--- Assumes nothing.
+-- Digits that do not begin with a zero begin with a digit1-9. Assumes nothing.
 use Rattle.text.proofs.numbers.Parts.{no-int, int-zero, int-digits}
 use borrow.Author.Needs.{needs}
 use Rattle.text.proofs.numbers.find_int.Statement.{statement}

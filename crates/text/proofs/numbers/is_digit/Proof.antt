@@ -1,4 +1,3 @@
--- `text::numbers::is_digit` meets its contract: what the test says of the octet decides the range of DIGIT.
 -- Assumes nothing.
 use Rattle.text.proofs.numbers.Parts.{digit-or-above, below-digits}
 use Rattle.text.proofs.numbers.is_digit.Statement.{statement}

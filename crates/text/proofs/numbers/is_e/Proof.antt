@@ -1,4 +1,3 @@
--- `text::numbers::is_e` meets its contract: the two tests are the two letters.
 -- Assumes nothing.
 use Rattle.text.proofs.numbers.Parts.{small-e, maybe-capital-e}
 use Rattle.text.proofs.numbers.is_e.Statement.{statement}

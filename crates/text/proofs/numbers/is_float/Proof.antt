@@ -1,5 +1,4 @@
--- `text::numbers::is_float` meets its contract: what follows the int decides.
--- Assumes nothing.
+-- What follows the int decides, where there is one. Assumes nothing.
 use Rattle.text.proofs.numbers.Parts.{float-by-rest, float-no-int}
 use borrow.Author.Needs.{needs}
 use Rattle.text.proofs.numbers.is_float.Statement.{statement}

@@ -1,5 +1,4 @@
--- `text::numbers::is_frac_or_exp` meets its contract: the four ways are the two parts there or absent.
--- Assumes nothing.
+-- Either of frac and exp may be absent, but not both. Assumes nothing.
 use Rattle.text.proofs.numbers.Parts.{frac-and-exp, frac-alone, exp-alone, neither}
 use borrow.Author.Needs.{needs}
 use Rattle.text.proofs.numbers.is_frac_or_exp.Statement.{statement}

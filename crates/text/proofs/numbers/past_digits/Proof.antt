@@ -1,5 +1,4 @@
--- `text::numbers::past_digits` meets its contract. The loop keeps that the digits from `at` and those from `i` leave the same text.
--- Assumes nothing.
+-- Digits that are taken one by one leave the text that all of them leave. Assumes nothing.
 use mathlib.Core.Path.{_≡_, refl}
 use Prim.Native.Nat.{_-_}
 use lib.ListN.{length, drop}

@@ -1,5 +1,4 @@
--- `text::numbers::past_minus` meets its contract: the octet at the position is a minus, or nothing is taken.
--- Assumes nothing.
+-- An optional part that is not there takes nothing. Assumes nothing.
 use Rattle.text.proofs.numbers.Parts.{no-minus, minus-there, minus-absent}
 use borrow.Author.Needs.{needs}
 use Rattle.text.proofs.numbers.past_minus.Statement.{statement}

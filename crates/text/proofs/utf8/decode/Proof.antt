@@ -1,72 +1,24 @@
--- `text::utf8::decode` meets its contract. The loop keeps that the sequence is half read: what is still to come decides (`Half`).
--- Assumes nothing.
-use Prim.Native.Nat.{_+_, _-_}
-use Rattle.text.proofs.utf8.Decoding.{Half, read-single, read-no-lead, read-short, leads-small, half-begun, half-fits, half-refused, half-more, read-whole, read-not-allowed}
+-- An octet of 128 or more is the first of two, three or four octets, or of none. Assumes nothing.
+use Rattle.text.proofs.utf8.Decoding.{leads-as, read-no-lead}
 use borrow.Author.Needs.{needs}
 use Rattle.text.proofs.utf8.decode.Statement.{statement}
 use Rattle.text.proofs.utf8.decode.Tie as tie
 
-abbrev Inv-loop : tie.InvT-loop
-Inv-loop s at lead size end point₀ i₀ point i = Half s at size point i
-
-abbrev μ-loop : tie.MeasureT-loop
-μ-loop s at lead size end point₀ i₀ point i = at + size - i
-
-returns : tie.Need-returns Inv-loop μ-loop
-returns c = search read-single
-
-returns-2 : tie.Need-returns-2 Inv-loop μ-loop
-returns-2 c = search read-no-lead
-
-returns-3 : tie.Need-returns-3 Inv-loop μ-loop
-returns-3 c = search read-short
-
-lead-bits-requires : tie.Need-lead-bits-requires Inv-loop μ-loop
-lead-bits-requires c κs = search leads-small
-
-loop-holds : tie.Need-loop-holds Inv-loop μ-loop
-loop-holds c = search half-begun
-
-returns-4 : tie.Need-returns-4 Inv-loop μ-loop
-returns-4 c = search half-refused
-
-with-tail-requires : tie.Need-with-tail-requires Inv-loop μ-loop
-with-tail-requires c κs = search half-fits
-
-loop-again : tie.Need-loop-again Inv-loop μ-loop
-loop-again c = search half-more
-
-returns-5 : tie.Need-returns-5 Inv-loop μ-loop
-returns-5 c = search read-whole
-
-returns-6 : tie.Need-returns-6 Inv-loop μ-loop
-returns-6 c = search read-not-allowed
+returns-4 : tie.Need-returns-4
+returns-4 c =
+    read-no-lead (c .before .before .before .before .args .s .now) (c .before .before .before .before .args .at) (c .before .sequence-length .result)
+    (search needs) (search needs) (c .match .rest .0 .0 .1) (c .match .rest .0 .1) (c .match .rest .1) (search needs)
 
 pub decode-spec : {M : Type 1} → statement M
 decode-spec =
     tie.close
     (tie.spec
-    Inv-loop
-    μ-loop
     (λ c. search needs)
     (λ c κs. search needs)
-    (λ c. search needs)
-    returns
-    (λ c κs. search needs)
-    returns-2
-    (λ c. search needs)
-    returns-3
-    (λ c. search needs)
-    lead-bits-requires
-    (λ c. search needs)
-    loop-holds
-    (λ c. search needs)
-    (λ c κs. search needs)
-    returns-4
-    with-tail-requires
+    (λ c κs. search (leads-as, needs))
+    (λ c κs. search (leads-as, needs))
+    (λ c κs. search (leads-as, needs))
     (λ c. search needs)
     (λ c. search needs)
-    loop-again
-    (λ c κs. search needs)
-    returns-5
-    returns-6)
+    (λ c. search needs)
+    returns-4)

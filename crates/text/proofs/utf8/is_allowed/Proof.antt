@@ -1,5 +1,4 @@
--- `text::utf8::is_allowed` meets its contract: each way out decides the three tests of allowed.
--- Assumes nothing.
+-- Only an overlong number, a surrogate and a number above the last are not allowed. Assumes nothing.
 use Rattle.text.proofs.utf8.Octets.{overlong, before-surrogates, surrogate, after-surrogates}
 use borrow.Author.Needs.{needs}
 use Rattle.text.proofs.utf8.is_allowed.Statement.{statement}

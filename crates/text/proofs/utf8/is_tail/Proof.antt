@@ -1,5 +1,4 @@
--- `text::utf8::is_tail` meets its contract: the two highest bits of an octet fix its quarter of the 256.
--- Assumes nothing.
+-- The two highest bits of an octet fix its quarter of the 256. Assumes nothing.
 use Rattle.text.proofs.utf8.Octets.{tail-test}
 use Rattle.text.proofs.utf8.is_tail.Statement.{statement}
 use Rattle.text.proofs.utf8.is_tail.Tie as tie

@@ -1,5 +1,4 @@
--- `text::utf8::lead_bits` meets its contract: the shifted mask keeps the lowest bits, which are a remainder.
--- Assumes nothing.
+-- The shifted mask keeps the lowest bits, and these are a remainder. Assumes nothing.
 use mathlib.Core.Path.{_∙_}
 use Rattle.text.proofs.utf8.Octets.{lead-masked}
 use borrow.Author.Needs.{needs}

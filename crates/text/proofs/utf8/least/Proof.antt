@@ -1,4 +1,3 @@
--- `text::utf8::least` meets its contract: the arms are the cases of leastFor.
 -- Assumes nothing.
 use Rattle.text.proofs.utf8.Octets.{least-two, least-three, least-four}
 use Rattle.text.proofs.utf8.least.Statement.{statement}

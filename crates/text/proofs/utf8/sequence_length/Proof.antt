@@ -1,5 +1,4 @@
--- `text::utf8::sequence_length` meets its contract: the count of leading ones fixes the range of the octet.
--- Assumes nothing.
+-- The count of the ones that an octet begins with fixes the range that it lies in. Assumes nothing.
 use Rattle.text.proofs.utf8.Octets.{leads-two, leads-three, leads-four, leads-none}
 use Rattle.text.proofs.utf8.sequence_length.Statement.{statement}
 use Rattle.text.proofs.utf8.sequence_length.Tie as tie

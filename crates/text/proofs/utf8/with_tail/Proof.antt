@@ -1,5 +1,4 @@
--- `text::utf8::with_tail` meets its contract: the shift loses nothing of a number below 2 ^ 26, and leaves room for six bits.
--- Assumes nothing.
+-- The shift loses nothing of a number below 2 ^ 26, and leaves room for six bits. Assumes nothing.
 use Rattle.text.proofs.utf8.Octets.{tail-appended}
 use borrow.Author.Needs.{needs}
 use Rattle.text.proofs.utf8.with_tail.Statement.{statement}

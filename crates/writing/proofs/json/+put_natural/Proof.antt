@@ -1,5 +1,4 @@
--- `text::json::put_natural` meets its contract. It calls itself at n / 10, which is less than n, and the two ways that it goes are the two cases of
--- `decimal`. Assumes nothing.
+-- The digits of n are those of n / 10, which is less than n, and then its last one; below ten there is one. Assumes nothing.
 use borrow.Author.Needs.{needs}
 use mathlib.Core.Path.{sym}
 use Rattle.writing.proofs.WritesLaws.{«then», same}

@@ -1,4 +1,4 @@
--- `text::json::escape_letter` meets its contract: the code asks the same questions as the definition, in the same order. Assumes nothing.
+-- Assumes nothing.
 use borrow.Author.Tests.{eq-eqb, ne-eqb}
 use Rattle.writing.specs.Escape.{escapeLetter}
 use Rattle.writing.proofs.json.escape_letter.Statement.{statement}

@@ -1,4 +1,4 @@
--- `text::json::hex_digit` meets its contract: the code asks the same question as the definition. Assumes nothing.
+-- Assumes nothing.
 use borrow.Author.Tests.{lt-ltb, le-ltb}
 use Rattle.writing.specs.Escape.{hexDigit}
 use borrow.Author.Needs.{needs}

@@ -1,4 +1,4 @@
--- `text::json::put_code_point_escape` meets its contract: the four characters that are always there, and then the two digits. Assumes nothing.
+-- Of the six characters four are always the same, and two are digits. Assumes nothing.
 use Rattle.writing.proofs.WritesLaws.{cons, «then»}
 use borrow.Author.Needs.{needs}
 use Rattle.writing.proofs.json.put_code_point_escape.Statement.{statement}

@@ -1,4 +1,4 @@
--- `text::json::put_escaped` meets its contract: its three ways are the three cases of `escaped`. Assumes nothing.
+-- A byte has a two-character escape, or is a control character that has none, or stands for itself. Assumes nothing.
 use mathlib.Core.Path.{sym}
 use Rattle.writing.proofs.WritesLaws.{cons, same}
 use Rattle.writing.proofs.EscapeLaws.{escaped-letter, escaped-control, escaped-plain}

@@ -1,4 +1,4 @@
--- `text::json::put_escaped_all` meets its contract. The invariant of its loop: the first i bytes of s are written, each escaped. Assumes nothing.
+-- A string that has one byte more is written with the escape of that byte behind it. Assumes nothing.
 use mathlib.Core.Path.{refl}
 use Prim.Native.Nat.{_-_}
 use lib.ListN.{length}

@@ -1,4 +1,4 @@
--- `text::json::put_negative` meets its contract: a minus sign and the digits. Assumes nothing.
+-- A minus sign and then the digits are one text. Assumes nothing.
 use Rattle.writing.proofs.WritesLaws.{cons}
 use borrow.Author.Needs.{needs}
 use Rattle.writing.proofs.json.put_negative.Statement.{statement}

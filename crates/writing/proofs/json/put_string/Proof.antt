@@ -1,4 +1,4 @@
--- `text::json::put_string` meets its contract: a quotation mark, the bytes, a quotation mark. Assumes nothing.
+-- A quotation mark, the bytes and a quotation mark, one behind the other, are one text. Assumes nothing.
 use Rattle.writing.specs.Escape.{quoted}
 use Rattle.writing.proofs.WritesLaws.{cons, «then»}
 use borrow.Author.Needs.{needs}

@@ -1,4 +1,4 @@
--- `text::place::clear_words` meets its contract. The invariant of its loop: all from `from` to i is zero, and what is before `from` is as it was. Assumes nothing.
+-- Zeros from the position up to the end leave nothing else behind it, and nothing before it is written. Assumes nothing.
 use borrow.Author.Needs.{needs}
 use Prim.Native.Nat.{_-_}
 use lib.ListN.{length}

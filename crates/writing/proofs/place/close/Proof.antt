@@ -1,5 +1,4 @@
--- `text::place::close` meets its contract. Where nothing was written both brackets are; where something was, the left one takes the place of its first
--- comma. A text that does not fit is past the end on either way. Assumes nothing.
+-- The first comma makes room for the left bracket; a text that does not fit is past the end with its brackets too. Assumes nothing.
 use mathlib.Core.Path.{_≡_, sym, ap, _∙_}
 use mathlib.Core.Logic.{⊎-elim}
 use lib.ListN.{length, set, length-set}

@@ -1,4 +1,4 @@
--- `text::place::rotate` meets its contract: the three reversals are the rotation. Assumes nothing.
+-- Of two runs side by side, reversing each and then both gives the second before the first. Assumes nothing.
 use Rattle.writing.proofs.Rotation.{rotated-by-reversals}
 use borrow.Author.Needs.{needs}
 use Rattle.writing.proofs.place.rotate.Statement.{statement}

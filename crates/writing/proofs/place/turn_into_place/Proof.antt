@@ -1,5 +1,4 @@
--- `text::place::turn_into_place` meets its contract. Where the borders are in order and within the buffer it is rotated, and otherwise it stays; of a text that
--- fits they are, and the rotation moves what was written last. Assumes nothing.
+-- Of a text that fits, the borders are in order and within the buffer; of one that does not, nothing has to move. Assumes nothing.
 use Rattle.writing.proofs.Rotation.{moves-rotated, moves-not-low, moves-not-far, moves-not-over}
 use native.Mathlib.Omega.{arith}
 use borrow.Author.Needs.{needs}

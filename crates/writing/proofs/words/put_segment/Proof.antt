@@ -1,4 +1,4 @@
--- `text::words::put_segment` meets its contract: each word is written where the one before it ended. Assumes nothing.
+-- Words that are each put where the one before ended are one text. Assumes nothing.
 use Rattle.writing.proofs.WritesLaws.{cons}
 use borrow.Author.Needs.{needs}
 use Rattle.writing.proofs.words.put_segment.Statement.{statement}

@@ -1,4 +1,4 @@
--- `text::write::put_all` meets its contract. The invariant of its loop: the first i bytes of s are written. Assumes nothing.
+-- A run that has one byte more is written with that byte behind it. Assumes nothing.
 use borrow.Author.Needs.{needs}
 use mathlib.Core.Path.{refl}
 use mathlib.Core.List.{List, [], _∷_}

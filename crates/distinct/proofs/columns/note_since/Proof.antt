@@ -1,0 +1,83 @@
+-- Each row passed is the last one of its word so far and has its note; the next note follows from the one before and from the last row of the word. Assumes nothing.
+use mathlib.Core.Path.{_≡_, refl, sym, _∙_}
+use Prim.Native.Nat.{ℕ, _+_, _*_, _-_, _/_, _%_, _≤_, _<_, _^_}
+use native.Mathlib.Omega.{arith}
+use lib.ListN.{length, length-set}
+use lib.Seq.{getD-set-same}
+use Rattle.rows.specs.Rows.{cell}
+use Rattle.rules.specs.Rows.{other}
+use Rattle.distinct.specs.Differ.{Lasts, Since}
+use Rattle.distinct.proofs.Differ.{after-from, since-none, since-low, since-one}
+use Rattle.distinct.proofs.Chains.{lasts-none, lasts-one, lasts-found}
+use borrow.Author.Needs.{needs}
+use Rattle.distinct.proofs.columns.note_since.Statement.{statement}
+use Rattle.distinct.proofs.columns.note_since.Tie as tie
+
+abbrev Inv-loop : tie.InvT-loop
+Inv-loop t width column since₀ rows lasts₀ row₀ since lasts row = (row ≤ rows) × (length since ≡ length since₀) × Lasts (λ j. cell t width j column) 512 row lasts × Since (other t width column) row since
+
+abbrev μ-loop : tie.MeasureT-loop
+μ-loop t width column since₀ rows lasts₀ row₀ since lasts row = rows - row
+
+loop-holds : tie.Need-loop-holds Inv-loop μ-loop
+loop-holds c = (search needs, refl, lasts-none _ 512, since-none _ _ (getD-set-same (c .before .before .before .args .since .now) 0 0 0 (c .before .before .before .pre .3)))
+
+same-length : tie.Need-same-length Inv-loop μ-loop
+same-length c = c .before .before .before .loop .inv .1 ∙ length-set (c .before .before .before .before .before .before .before .args .since .now) 0 0
+
+returns : tie.Need-returns Inv-loop μ-loop
+returns c = (omega (arith, simp length-set at (c .before .before .before .loop .inv .1)), c .before .before .before .loop .inv .3)
+
+slice-read-from : tie.Need-slice-read-from Inv-loop μ-loop
+slice-read-from c = omega (arith, simp length-set at (c .before .before .before .before .loop .inv .1))
+
+slice-write-since-2 : tie.Need-slice-write-since-2 Inv-loop μ-loop
+slice-write-since-2 c = omega (arith, simp length-set at (c .before .before .before .before .before .loop .inv .1))
+
+loop-again : tie.Need-loop-again Inv-loop μ-loop
+loop-again c = (
+  search needs,
+  length-set (c .before .before .before .before .before .loop .since) (c .before .before .before .before .before .loop .row + 1) (c .later .result) ∙ c .before .before .before .before .before .loop .inv .1,
+  lasts-one _ _ _ _ _ (c .before .before .before .before .before .loop .inv .2) (c .before .before .before .cell .ensures) (c .before .before .if1 .left),
+  since-one _ _ _ (c .before .before .before .before .before .loop .inv .3) (c .later .result)
+      (rw (c .later .ensures)
+      (after-from _ _ _ _ (lasts-found _ _ _ _ _ (c .before .before .before .before .before .loop .inv .2) (c .before .before .before .cell .ensures) (c .before .before .if1 .left)) (since-low _ _ _ (c .before .before .before .before .before .loop .inv .3))))
+      (omega (arith, simp length-set at (c .before .before .before .before .before .loop .inv .1))),
+)
+
+same-length-2 : tie.Need-same-length-2 Inv-loop μ-loop
+same-length-2 c = c .before .loop .inv .1 ∙ length-set (c .before .before .before .before .before .args .since .now) 0 0
+
+returns-2 : tie.Need-returns-2 Inv-loop μ-loop
+returns-2 c = (omega (arith, simp length-set at (c .before .loop .inv .1)), c .before .loop .inv .3)
+
+pub note-since-spec : {M : Type 1} → statement M
+note-since-spec =
+    tie.close
+    (tie.spec
+    Inv-loop
+    μ-loop
+    (λ c κs. search needs)
+    (λ c. search needs)
+    loop-holds
+    (λ c κs. search needs)
+    (λ c. search needs)
+    same-length
+    returns
+    (λ c. search needs)
+    (λ c. search needs)
+    (λ c. search needs)
+    (λ c. search needs)
+    (λ c. search needs)
+    (λ c. search needs)
+    (λ c. search needs)
+    slice-read-from
+    (λ c κs. search needs)
+    (λ c. search needs)
+    (λ c. search needs)
+    slice-write-since-2
+    (λ c. search needs)
+    (λ c. search needs)
+    loop-again
+    same-length-2
+    returns-2)

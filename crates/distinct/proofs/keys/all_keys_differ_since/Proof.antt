@@ -1,0 +1,43 @@
+-- The keys of the nodes passed differ; a node whose keys do not ends the search. Assumes nothing.
+use mathlib.Core.Path.{_≡_, refl, sym, _∙_}
+use mathlib.Core.Bool.{true, false}
+use Prim.Native.Nat.{ℕ, _+_, _*_, _-_, _/_, _%_, _≤_, _<_, _^_}
+use Rattle.rows.specs.Rows.{all}
+use Rattle.rules.specs.Json.{nodeKeysDiffer}
+use Rattle.rows.proofs.Every.{all-none, all-more, all-broken, all-ended}
+use borrow.Author.Needs.{needs}
+use Rattle.distinct.proofs.keys.all_keys_differ_since.Statement.{statement}
+use Rattle.distinct.proofs.keys.all_keys_differ_since.Tie as tie
+
+abbrev Inv-loop : tie.InvT-loop
+Inv-loop pool nodes since known rows row₀ row = (row ≤ rows) × (all (nodeKeysDiffer pool nodes) row ≡ true)
+
+abbrev μ-loop : tie.MeasureT-loop
+μ-loop pool nodes since known rows row₀ row = rows - row
+
+loop-holds : tie.Need-loop-holds Inv-loop μ-loop
+loop-holds c = (search needs, all-none _)
+
+returns : tie.Need-returns Inv-loop μ-loop
+returns c = rw (← (c .before .before .before .before .row-count .ensures)) (all-broken _ (c .before .before .before .loop .row) _ (c .before .keys-differ-since .result) (c .before .before .loop-test .taken) (c .before .keys-differ-since .ensures) (c .if1 .taken))
+
+loop-again : tie.Need-loop-again Inv-loop μ-loop
+loop-again c = (search needs, all-more _ (c .before .before .before .loop .row) (c .before .keys-differ-since .result) (c .before .before .before .loop .inv .1) (c .before .keys-differ-since .ensures) (c .if1 .left))
+
+returns-2 : tie.Need-returns-2 Inv-loop μ-loop
+returns-2 c = rw (← (c .before .before .row-count .ensures)) (all-ended _ (c .before .loop .row) _ (c .before .loop .inv .1) (c .before .loop .inv .0) (c .loop-test .left))
+
+pub all-keys-differ-since-spec : {M : Type 1} → statement M
+all-keys-differ-since-spec =
+    tie.close
+    (tie.spec
+    Inv-loop
+    μ-loop
+    (λ c κs. search needs)
+    loop-holds
+    (λ c κs. search needs)
+    returns
+    (λ c. search needs)
+    (λ c. search needs)
+    loop-again
+    returns-2)

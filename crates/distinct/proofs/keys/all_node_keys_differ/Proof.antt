@@ -1,0 +1,32 @@
+-- The notes answer for every object. Assumes nothing.
+use mathlib.Core.Path.{_≡_, refl, sym, _∙_}
+use native.Mathlib.Omega.{arith}
+use Rattle.rows.specs.Json.{nodeKey}
+use Rattle.distinct.specs.Texts.{textAt}
+use Rattle.distinct.proofs.Kept.{kept-none}
+use borrow.Author.Needs.{needs}
+use Rattle.distinct.proofs.keys.all_node_keys_differ.Statement.{statement}
+use Rattle.distinct.proofs.keys.all_node_keys_differ.Tie as tie
+
+note-texts-requires : tie.Need-note-texts-requires
+note-texts-requires c κs = ((search needs, search needs, search needs, omega arith), kept-none _ _ _ _ 4096 4097 refl)
+
+all-keys-differ-since-requires : tie.Need-all-keys-differ-since-requires
+unfolding nodeKey textAt
+all-keys-differ-since-requires c κs = (omega arith, c .before .before .before .before .before .note-texts .ensures .told)
+
+pub all-node-keys-differ-spec : {M : Type 1} → statement M
+all-node-keys-differ-spec =
+    tie.close
+    (tie.spec
+    (λ c κs. search needs)
+    (λ c κs. search needs)
+    (λ c. search needs)
+    (λ c. search needs)
+    (λ c. search needs)
+    (λ c. search needs)
+    (λ c. search needs)
+    note-texts-requires
+    (λ c. search needs)
+    all-keys-differ-since-requires
+    (λ c. search needs))

@@ -1,0 +1,32 @@
+-- The mark of the set says whether it is free, and is set then. Assumes nothing.
+use native.Mathlib.Omega.{arith}
+use lib.ListN.{length-set}
+use Rattle.distinct.proofs.Marked.{fragment-past, fragment-marked, fragment-told}
+use borrow.Author.Needs.{needs}
+use Rattle.distinct.proofs.owners.fragment_claims.Statement.{statement}
+use Rattle.distinct.proofs.owners.fragment_claims.Tie as tie
+
+returns : tie.Need-returns
+returns c = (c .fragment-owns-alone .ensures, fragment-past _ _ _ _ (c .before .before .before .before .before .before .pre) (rw (c .before .before .fragment-at .ensures) at (c .before .if1 .taken)))
+
+slice-read-mark : tie.Need-slice-read-mark
+slice-read-mark c = omega (arith, c .before .before .before .before .before .before .pre .sized)
+
+slice-write-marks : tie.Need-slice-write-marks
+slice-write-marks c = omega (arith, c .before .before .before .before .before .before .pre .sized)
+
+returns-2 : tie.Need-returns-2
+returns-2 c = rw (c .before .before .fragment-at .ensures) (fragment-told _ _ _ _ (c .before .before .before .before .before .before .pre) (rw (c .before .before .fragment-at .ensures) at (c .before .if1 .left)), fragment-marked _ _ _ _ (c .before .before .before .before .before .before .pre) (rw (c .before .before .fragment-at .ensures) at (c .before .if1 .left)))
+
+pub fragment-claims-spec : {M : Type 1} → statement M
+fragment-claims-spec =
+    tie.close
+    (tie.spec
+    (λ c κs. search needs)
+    (λ c κs. search needs)
+    returns
+    (λ c. search needs)
+    slice-read-mark
+    slice-write-marks
+    (λ c. search needs)
+    returns-2)

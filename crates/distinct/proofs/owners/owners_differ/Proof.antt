@@ -1,0 +1,31 @@
+-- The marks that the selections leave serve the fragments. Assumes nothing.
+use mathlib.Core.Path.{_≡_, refl, sym, _∙_}
+use Rattle.rows.proofs.Every.{falsified, verified}
+use Rattle.distinct.proofs.Marked.{selections-first, fragments-first}
+use borrow.Author.Needs.{needs}
+use Rattle.distinct.proofs.owners.owners_differ.Statement.{statement}
+use Rattle.distinct.proofs.owners.owners_differ.Tie as tie
+
+selections-claim-requires : tie.Need-selections-claim-requires
+selections-claim-requires c κs = selections-first _
+
+returns : tie.Need-returns
+returns c = rw (falsified (c .before .before .selections-claim .result) _ (c .before .before .selections-claim .ensures .0) (c .if1 .taken))
+
+fragments-claim-requires : tie.Need-fragments-claim-requires
+fragments-claim-requires c κs = fragments-first _ _ _ (c .before .before .before .selections-claim .ensures .1 (verified (c .before .before .before .selections-claim .result) _ refl (c .before .if1 .left)))
+
+returns-2 : tie.Need-returns-2
+returns-2 c = rw (verified (c .before .before .before .before .before .selections-claim .result) _ (c .before .before .before .before .before .selections-claim .ensures .0) (c .before .before .before .if1 .left)) (c .before .fragments-claim .ensures)
+
+pub owners-differ-spec : {M : Type 1} → statement M
+owners-differ-spec =
+    tie.close
+    (tie.spec
+    (λ c. search needs)
+    (λ c. search needs)
+    selections-claim-requires
+    returns
+    (λ c. search needs)
+    fragments-claim-requires
+    returns-2)

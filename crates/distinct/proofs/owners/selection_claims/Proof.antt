@@ -1,0 +1,42 @@
+-- The mark of the set says whether it is free, and is set then. Assumes nothing.
+use mathlib.Core.Path.{_≡_, refl, sym, _∙_}
+use native.Mathlib.Omega.{arith}
+use Rattle.distinct.proofs.Marked.{selection-absent, selection-past, selection-marked, selection-told}
+use borrow.Author.Needs.{needs}
+use Rattle.distinct.proofs.owners.selection_claims.Statement.{statement}
+use Rattle.distinct.proofs.owners.selection_claims.Tie as tie
+
+returns : tie.Need-returns
+returns c =
+    let e = sym (c .before .before .owned-set .ensures) ∙ c .enum-told .given .1 in
+    (rw e, selection-absent _ _ _ (c .before .before .before .before .before .pre) e)
+
+returns-2 : tie.Need-returns-2
+returns-2 c = (c .selection-owns-alone .ensures, selection-past _ _ _ (c .before .before .before .before .before .before .before .before .pre) _ (sym (c .before .before .before .before .before .owned-set .ensures) ∙ c .before .before .before .owned .given .1) (c .before .if1 .taken))
+
+slice-read-mark : tie.Need-slice-read-mark
+slice-read-mark c = omega (arith, c .before .before .before .before .before .before .before .before .pre .sized)
+
+slice-write-marks : tie.Need-slice-write-marks
+slice-write-marks c = omega (arith, c .before .before .before .before .before .before .before .before .pre .sized)
+
+returns-3 : tie.Need-returns-3
+returns-3 c =
+    let e = sym (c .before .before .before .before .before .owned-set .ensures) ∙ c .before .before .before .owned .given .1 in
+    (selection-told _ _ _ (c .before .before .before .before .before .before .before .before .pre) _ e (c .before .if1 .left), selection-marked _ _ _ (c .before .before .before .before .before .before .before .before .pre) _ e (c .before .if1 .left))
+
+pub selection-claims-spec : {M : Type 1} → statement M
+selection-claims-spec =
+    tie.close
+    (tie.spec
+    (λ c κs. search needs)
+    (λ c. search needs)
+    (λ c. search needs)
+    returns
+    (λ c κs. search needs)
+    returns-2
+    (λ c. search needs)
+    slice-read-mark
+    slice-write-marks
+    (λ c. search needs)
+    returns-3)

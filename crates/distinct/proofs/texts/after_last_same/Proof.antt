@@ -1,0 +1,54 @@
+-- What is passed on the way back differs from the row; a row that is the same ends it. Assumes nothing.
+use mathlib.Core.Path.{_≡_, refl, sym, _∙_}
+use Prim.Native.Nat.{ℕ, _+_, _*_, _-_, _/_, _%_, _≤_, _<_, _^_}
+use native.Mathlib.Omega.{arith}
+use Rattle.distinct.specs.Differ.{Cursor}
+use Rattle.distinct.specs.Texts.{otherText, textChain}
+use Rattle.rows.proofs.Every.{falsified, verified}
+use Rattle.distinct.proofs.Chains.{cursor-step, cursor-found, cursor-end}
+use Rattle.distinct.proofs.HashLaws.{chain-other}
+use borrow.Author.Needs.{needs}
+use Rattle.distinct.proofs.texts.after_last_same.Statement.{statement}
+use Rattle.distinct.proofs.texts.after_last_same.Tie as tie
+
+abbrev Inv-loop : tie.InvT-loop
+Inv-loop pool t width column next hashes head from row cursor₀ cursor = Cursor (otherText pool t width column) (textChain pool t width column) row cursor
+
+abbrev μ-loop : tie.MeasureT-loop
+μ-loop pool t width column next hashes head from row cursor₀ cursor = cursor
+
+returns : tie.Need-returns Inv-loop μ-loop
+returns c = cursor-found _ _ (chain-other _ _ _ _) _ _ _ (c .before .before .before .loop .inv) (c .before .before .loop-test .taken) (falsified (c .before .is-other .result) _ (c .before .is-other .ensures) (c .if1 .taken))
+
+cast-cursor : tie.Need-cast-cursor Inv-loop μ-loop
+cast-cursor c = omega (arith, c .shared-slice-known5 .given (c .before .before .before .before .loop .cursor - 1))
+
+loop-less : tie.Need-loop-less Inv-loop μ-loop
+loop-less c = omega (arith, c .before .before .before .before .before .before .before .before .before .pre .1 .1 .0 .linked (c .before .before .before .before .loop .cursor - 1) (omega arith) .high)
+
+loop-again : tie.Need-loop-again Inv-loop μ-loop
+loop-again c =
+    cursor-step _ _ (chain-other _ _ _ _) _ _ _ (c .before .before .before .before .loop .inv) (omega arith)
+    (verified (c .before .before .is-other .result) _ (c .before .before .is-other .ensures) (c .before .if1 .left))
+    (c .before .before .before .before .before .before .before .before .before .pre .1 .1 .0 .linked (c .before .before .before .before .loop .cursor - 1) (omega arith))
+
+returns-2 : tie.Need-returns-2 Inv-loop μ-loop
+returns-2 c = cursor-end _ _ (chain-other _ _ _ _) _ _ _ (c .before .loop .inv) (c .loop-test .left) (omega arith)
+
+pub after-last-same-spec : {M : Type 1} → statement M
+after-last-same-spec =
+    tie.close
+    (tie.spec
+    Inv-loop
+    μ-loop
+    (λ c. search needs)
+    (λ c. search needs)
+    (λ c κs. search needs)
+    returns
+    (λ c. search needs)
+    (λ c. search needs)
+    (λ c. search needs)
+    cast-cursor
+    loop-less
+    loop-again
+    returns-2)

@@ -1,0 +1,79 @@
+-- The row goes to the head of its chain; the way back from it, through its chain, gives its note. Assumes nothing.
+use Prim.Native.Nat.{ℕ, _+_, _*_, _-_, _/_, _%_, _≤_, _<_, _^_}
+use native.Mathlib.Omega.{arith}
+use lib.ListN.{length-set}
+use Rattle.distinct.proofs.Differ.{since-low}
+use Rattle.distinct.proofs.Kept.{kept-cursor, kept-hashed, kept-one}
+use borrow.Author.Needs.{needs}
+use Rattle.distinct.proofs.texts.note_text.Statement.{statement}
+use Rattle.distinct.proofs.texts.note_text.Tie as tie
+
+slice-read-head : tie.Need-slice-read-head
+slice-read-head c = omega (arith, c .before .before .before .before .before .before .before .before .pre .1 .headed .sized)
+
+slice-read-from : tie.Need-slice-read-from
+slice-read-from c = omega (arith, c .before .before .before .before .before .before .before .before .before .pre .1 .since-sized)
+
+cast-from : tie.Need-cast-from
+cast-from c = omega (arith, c .slice-known6 .given (c .before .before .before .before .before .before .before .before .before .args .row))
+
+slice-write-hashes : tie.Need-slice-write-hashes
+slice-write-hashes c = omega (arith, c .before .before .before .before .before .before .before .before .before .pre .1 .hashes-sized)
+
+cast-after-last-same : tie.Need-cast-after-last-same
+cast-after-last-same c = omega (arith, c .before .before .before .slice-known5 .given (c .before .before .before .before .hash-at .result % 2048))
+
+after-last-same-requires : tie.Need-after-last-same-requires
+after-last-same-requires c κs = (
+  (search needs, search needs, search needs, simp length-set (omega (arith, c .before .before .before .before .before .before .before .before .before .before .before .pre .1 .hashes-sized)), search needs, since-low _ _ _ (c .before .before .before .before .before .before .before .before .before .before .before .pre .1 .told)),
+  (
+    kept-hashed _ _ _ _ _ _ _ _ _ (c .before .before .before .before .before .before .before .before .before .before .before .pre .1) _ (c .before .before .before .before .hash-at .ensures) (omega arith),
+    (
+      c .before .before .before .before .before .before .before .before .before .before .before .pre .1 .linked,
+      kept-cursor _ _ _ _ _ _ _ _ _ (c .before .before .before .before .before .before .before .before .before .before .before .pre .1) _ (c .before .before .before .before .hash-at .ensures),
+    ),
+  ),
+)
+
+slice-write-heads : tie.Need-slice-write-heads
+slice-write-heads c = omega (arith, c .before .before .before .before .before .before .before .before .before .before .before .before .pre .1 .headed .sized)
+
+cast-since : tie.Need-cast-since
+cast-since c = omega (arith, c .after-last-same .ensures .high)
+
+slice-write-since : tie.Need-slice-write-since
+slice-write-since c = omega (arith, c .before .before .before .before .before .before .before .before .before .before .before .before .pre .1 .since-sized)
+
+returns : tie.Need-returns
+returns c = kept-one _ _ _ _ _ _ _ _ _ (c .before .before .before .before .before .before .before .before .before .before .before .before .pre .1) _ (c .before .before .before .before .before .hash-at .ensures) (c .after-last-same .result) (omega arith) (c .after-last-same .ensures)
+
+pub note-text-spec : {M : Type 1} → statement M
+note-text-spec =
+    tie.close
+    (tie.spec
+    (λ c κs. search needs)
+    (λ c. search needs)
+    (λ c. search needs)
+    slice-read-head
+    (λ c. search needs)
+    slice-read-from
+    cast-from
+    (λ c. search needs)
+    slice-write-hashes
+    cast-after-last-same
+    after-last-same-requires
+    (λ c. search needs)
+    (λ c. search needs)
+    (λ c. search needs)
+    slice-write-heads
+    (λ c. search needs)
+    (λ c. search needs)
+    cast-since
+    (λ c. search needs)
+    (λ c. search needs)
+    slice-write-since
+    (λ c. search needs)
+    (λ c. search needs)
+    (λ c. search needs)
+    (λ c. search needs)
+    returns)

@@ -1,0 +1,53 @@
+-- What is kept follows the rows. Assumes nothing.
+use mathlib.Core.Path.{_≡_, refl, sym, _∙_}
+use Prim.Native.Nat.{ℕ, _+_, _*_, _-_, _/_, _%_, _≤_, _<_, _^_}
+use native.Mathlib.Omega.{arith}
+use lib.ListN.{length}
+use Rattle.distinct.specs.Texts.{Kept}
+use borrow.Author.Needs.{needs}
+use Rattle.distinct.proofs.texts.note_texts.Statement.{statement}
+use Rattle.distinct.proofs.texts.note_texts.Tie as tie
+
+abbrev Inv-loop : tie.InvT-loop
+Inv-loop pool t width column heads₀ next₀ hashes₀ since₀ count row₀ heads next hashes since row = (row ≤ count) × (length heads ≡ length heads₀) × (length next ≡ length next₀) × (length hashes ≡ length hashes₀) × (length since ≡ length since₀) × Kept pool t width column row heads next hashes since
+
+abbrev μ-loop : tie.MeasureT-loop
+μ-loop pool t width column heads₀ next₀ hashes₀ since₀ count row₀ heads next hashes since row = count - row
+
+loop-holds : tie.Need-loop-holds Inv-loop μ-loop
+loop-holds c = (search needs, refl, refl, refl, refl, c .before .before .before .before .before .before .pre .1)
+
+note-text-requires : tie.Need-note-text-requires Inv-loop μ-loop
+note-text-requires c κs = ((search needs, search needs, search needs, omega (arith, c .before .before .before .before .before .loop .inv .2)), c .before .before .before .before .before .loop .inv .5)
+
+loop-again : tie.Need-loop-again Inv-loop μ-loop
+loop-again c = (
+  search needs,
+  c .before .before .before .before .before .before .before .before .note-text .kept .1 .1 .1 .1 .0 ∙ c .before .before .before .before .before .before .before .before .before .before .before .before .before .before .loop .inv .1,
+  c .before .before .before .before .before .before .before .before .note-text .kept .1 .1 .1 .1 .1 .0 ∙ c .before .before .before .before .before .before .before .before .before .before .before .before .before .before .loop .inv .2,
+  c .before .before .before .before .before .before .before .before .note-text .kept .1 .1 .1 .1 .1 .1 .0 ∙ c .before .before .before .before .before .before .before .before .before .before .before .before .before .before .loop .inv .3,
+  c .before .before .before .before .before .before .before .before .note-text .kept .1 .1 .1 .1 .1 .1 .1 .0 ∙ c .before .before .before .before .before .before .before .before .before .before .before .before .before .before .loop .inv .4,
+  c .before .before .before .before .before .before .before .before .note-text .ensures,
+)
+
+returns : tie.Need-returns Inv-loop μ-loop
+returns c =
+    let e : c .before .loop .row ≡ c .before .before .before .before .before .before .before .before .args .count = omega arith in
+    rw e at (c .before .loop .inv .5)
+
+pub note-texts-spec : {M : Type 1} → statement M
+note-texts-spec =
+    tie.close
+    (tie.spec
+    Inv-loop
+    μ-loop
+    loop-holds
+    note-text-requires
+    (λ c. search needs)
+    (λ c. search needs)
+    loop-again
+    (λ c. search needs)
+    (λ c. search needs)
+    (λ c. search needs)
+    (λ c. search needs)
+    returns)

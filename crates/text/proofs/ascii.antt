@@ -1,0 +1,2 @@
+-- What the proofs of `ascii` cite.
+mod Runs
