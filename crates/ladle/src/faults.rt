@@ -24,8 +24,7 @@ fn print_row_fault(table: usize, count: usize) {
         say::words(b" words, a row of ");
     }
     print_table(table);
-    say::words(b" has ");
-    say::number(row_width(table) as u64);
+    say::number_behind(b" has ", row_width(table) as u64);
 }
 
 // The place of its sentence below.

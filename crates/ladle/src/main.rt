@@ -1,5 +1,6 @@
 // ladle check FILE..: whether the tables of a table file are lawful, and if not, why not.
 // ladle depth FILE..: how deep its operation goes.
+mod about;
 mod explain;
 mod faults;
 mod help;

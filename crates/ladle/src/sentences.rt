@@ -1,8 +1,7 @@
-// The tables and the rules in words.
+// The rules in words.
 use crate::lists::line;
 use crate::say;
-use table_file::layout;
-ghost use Prim.Native.Nat.{_<_};
+use rows::limits;
 use tables::rulebook::DocumentRule;
 use tables::rulebook::Rule;
 use tables::rulebook::SchemaRule;
@@ -16,130 +15,44 @@ pub(crate) fn print_table(table: usize) {
     ));
 }
 
-fn size_table(rule: SizeRule) -> usize
-    ensures { λ r. ⌜ r < 16 ⌝ }
-{
+// The least rows that a table has.
+fn least(rule: SizeRule) -> usize {
     match rule {
-        SizeRule::Pool => layout::POOL,
-        SizeRule::Names => layout::NAMES,
-        SizeRule::TypeRefs => layout::TYPE_REFS,
-        SizeRule::Types => layout::TYPES,
-        SizeRule::Fields => layout::FIELDS,
-        SizeRule::Arguments => layout::ARGUMENTS,
-        SizeRule::Sets => layout::SETS,
-        SizeRule::Selections => layout::SELECTIONS,
-        SizeRule::Given => layout::GIVEN,
-        SizeRule::Fragments => layout::FRAGMENTS,
-        SizeRule::Nodes => layout::NODES,
-        SizeRule::Literals => layout::LITERALS,
-        SizeRule::Variables => layout::VARIABLES,
-        SizeRule::Answers => layout::ANSWERS,
+        SizeRule::Names => limits::LEAST_NAMES,
+        SizeRule::Sets => 1,
+        SizeRule::Answers => 1,
+        _ => 0,
     }
 }
 
-fn schema_table(rule: SchemaRule) -> usize
-    ensures { λ r. ⌜ r < 16 ⌝ }
-{
+// The most rows that it has, and of the pool the most bytes.
+fn most(rule: SizeRule) -> usize {
     match rule {
-        SchemaRule::NameSpelled => layout::NAMES,
-        SchemaRule::NameReserved => layout::NAMES,
-        SchemaRule::NamesDiffer => layout::NAMES,
-        SchemaRule::TypeReference => layout::TYPE_REFS,
-        SchemaRule::TypeRow => layout::TYPES,
-        SchemaRule::TypeParts => layout::TYPES,
-        SchemaRule::TypeNamesDiffer => layout::TYPES,
-        SchemaRule::Member => layout::MEMBERS,
-        SchemaRule::FieldRow => layout::FIELDS,
-        SchemaRule::FieldNamesDiffer => layout::TYPES,
-        SchemaRule::ArgumentRow => layout::ARGUMENTS,
-        SchemaRule::ArgumentNamesDiffer => layout::FIELDS,
-        SchemaRule::RootType => layout::ROOT,
-    }
-}
-
-fn document_table(rule: DocumentRule) -> usize
-    ensures { λ r. ⌜ r < 16 ⌝ }
-{
-    match rule {
-        DocumentRule::SetRow => layout::SETS,
-        DocumentRule::SelectionRow => layout::SELECTIONS,
-        DocumentRule::GivenRow => layout::GIVEN,
-        DocumentRule::GivenNamesDiffer => layout::SELECTIONS,
-        DocumentRule::FragmentRow => layout::FRAGMENTS,
-        DocumentRule::FragmentNamesDiffer => layout::FRAGMENTS,
-        DocumentRule::ChildSetsLarger => layout::SETS,
-        DocumentRule::SelectionOwnsAlone => layout::SELECTIONS,
-        DocumentRule::FragmentOwnsAlone => layout::FRAGMENTS,
-    }
-}
-
-fn value_table(rule: ValueRule) -> usize
-    ensures { λ r. ⌜ r < 16 ⌝ }
-{
-    match rule {
-        ValueRule::NodeRow => layout::NODES,
-        ValueRule::NodeKey => layout::NODES,
-        ValueRule::NodeKeysDiffer => layout::NODES,
-        ValueRule::LiteralRow => layout::LITERALS,
-        ValueRule::LiteralKeysDiffer => layout::LITERALS,
-        ValueRule::VariableRow => layout::VARIABLES,
-        ValueRule::VariableNamesDiffer => layout::VARIABLES,
-        ValueRule::AnswerRow => layout::ANSWERS,
-        ValueRule::AnswerNamesDiffer => layout::ANSWERS,
-        ValueRule::RootAnswer => layout::ANSWERS,
-    }
-}
-
-// The table that a rule speaks of.
-pub(crate) fn table_of(rule: Rule) -> usize
-    ensures { λ r. ⌜ r < 16 ⌝ }
-{
-    match rule {
-        Rule::Size(size) => size_table(size),
-        Rule::Schema(schema) => schema_table(schema),
-        Rule::Document(document) => document_table(document),
-        Rule::Value(value) => value_table(value),
-    }
-}
-
-// The place of its sentence below.
-fn size_sentence(rule: SizeRule) -> usize {
-    match rule {
-        SizeRule::Pool => 0,
-        SizeRule::Names => 1,
-        SizeRule::TypeRefs => 2,
-        SizeRule::Types => 3,
-        SizeRule::Fields => 4,
-        SizeRule::Arguments => 5,
-        SizeRule::Sets => 6,
-        SizeRule::Selections => 7,
-        SizeRule::Given => 8,
-        SizeRule::Fragments => 9,
-        SizeRule::Nodes => 10,
-        SizeRule::Literals => 11,
-        SizeRule::Variables => 12,
-        SizeRule::Answers => 13,
+        SizeRule::Pool => limits::MOST_BYTES,
+        SizeRule::Names => limits::MOST_NAMES,
+        SizeRule::TypeRefs => limits::MOST_TYPE_REFS,
+        SizeRule::Types => limits::MOST_TYPES,
+        SizeRule::Fields => limits::MOST_FIELDS,
+        SizeRule::Arguments => limits::MOST_ARGUMENTS,
+        SizeRule::Sets => limits::MOST_ROWS,
+        SizeRule::Selections => limits::MOST_SELECTIONS,
+        SizeRule::Given => limits::MOST_ROWS,
+        SizeRule::Fragments => limits::MOST_FRAGMENTS,
+        SizeRule::Nodes => limits::MOST_NODES,
+        SizeRule::Literals => limits::MOST_LITERALS,
+        SizeRule::Variables => limits::MOST_VARIABLES,
+        SizeRule::Answers => limits::MOST_ANSWERS,
     }
 }
 
 fn print_size_rule(rule: SizeRule) {
-    say::words(line(
-        b"there are at most 65,536 bytes\n\
-        there are 12 to 512 rows of 2 words\n\
-        there are at most 1,024 rows of 3 words\n\
-        there are at most 128 rows of 6 words\n\
-        there are at most 1,024 rows of 6 words\n\
-        there are at most 1,024 rows of 4 words\n\
-        there is at least 1 row of 2 words, the operation's set\n\
-        there are at most 2,048 rows of 10 words\n\
-        there are rows of 2 words\n\
-        there are at most 64 rows of 3 words\n\
-        there are at most 4,096 rows of 5 words\n\
-        there are at most 1,024 rows of 5 words\n\
-        there are at most 64 rows of 2 words\n\
-        there are 1 to 4,096 rows of 5 words",
-        size_sentence(rule),
-    ));
+    say::number_behind(b"there are ", least(rule) as u64);
+    say::number_behind(b" to ", most(rule) as u64);
+    if let SizeRule::Pool = rule {
+        say::words(b" bytes");
+    } else {
+        say::words(b" rows");
+    }
 }
 
 // The place of its sentence below.
@@ -164,7 +77,7 @@ fn schema_sentence(rule: SchemaRule) -> usize {
 fn print_schema_rule(rule: SchemaRule) {
     say::words(line(
         b"a name is 1 to 64 letters, digits and _ of the pool, and starts with no digit\n\
-        names 0 to 11 are __typename Int Float String Boolean ID __schema __type fields interfaces possibleTypes inputFields\n\
+        names 0 to 11 are the twelve that the word reserved stands for\n\
         an earlier row has the same name\n\
         a type reference is a kind (0 named, 1 list), non-null (0 or 1), then a name or, in a list, an earlier row\n\
         a type is a name, a kind, a range of fields and a range of members\n\

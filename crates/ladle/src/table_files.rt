@@ -48,20 +48,24 @@ fn print_answer(question: Question, text: &[u8], pool: &mut Pool, words: &mut Wo
     }
 }
 
+// Where and why a text is no table file.
+fn print_no_table_file(path: &[u8], line: usize, why: Fault, token: &[u8]) {
+    say::words(path);
+    say::number_behind(b":", line as u64);
+    say::words(b": ");
+    print_fault(why, token);
+    say::words(b"\n");
+}
+
 fn answer_text(question: Question, path: &[u8], is_one_of_several: bool, text: &[u8]) {
     let mut pool = layout::new_pool();
     let mut words = layout::new_words();
     let contents = table_file::read(text, &mut pool, &mut words);
     let why = contents.fault;
     let Fault::Fine = why else {
-        say::words(path);
-        say::words(b":");
-        say::number(contents.line as u64);
-        say::words(b": ");
         let from = contents.from;
         let to = contents.to;
-        print_fault(why, &text[from..to]);
-        say::words(b"\n");
+        print_no_table_file(path, contents.line, why, &text[from..to]);
         return;
     };
     if is_one_of_several {

@@ -23,9 +23,9 @@ returns c =
     let names = refs .before in
     let pool = names .before in
     let same = held-by _ _ _ (pool .pool-bytes .ensures) (names .table .ensures) (refs .table2 .ensures) (types .table3 .ensures) (members .table4 .ensures)
-               (fields .table5 .ensures) (arguments .table6 .ensures) (sets .table7 .ensures) (selections .table8 .ensures)
-               (given .table9 .ensures) (fragments .table10 .ensures) (nodes .table11 .ensures) (literals .table12 .ensures)
-               (variables .table13 .ensures) (answers .table14 .ensures) (root .root .ensures) in
+    (fields .table5 .ensures) (arguments .table6 .ensures) (sets .table7 .ensures) (selections .table8 .ensures)
+    (given .table9 .ensures) (fragments .table10 .ensures) (nodes .table11 .ensures) (literals .table12 .ensures)
+    (variables .table13 .ensures) (answers .table14 .ensures) (root .root .ensures) in
     rw same at (c .first-broken .ensures)
 
 pub first-broken-spec : {M : Type 1} → statement M
