@@ -2,9 +2,7 @@
 use crate::about::Subject;
 use crate::about::about;
 use crate::about::table_of;
-use crate::mending::Wrong;
-use crate::mending::word_at;
-use crate::mending::wrong_words;
+use crate::mending::print_wrong_words;
 use crate::say;
 use crate::sentences::print_rule;
 use crate::sentences::print_table;
@@ -29,20 +27,13 @@ fn is_asked(subject: Subject, is_any_broken: bool) -> bool {
     }
 }
 
-// Where one word is wrong, which, and what it is; where two that stand side by side are, both.
-fn print_wrong_words(rule: Rule, row: u32, pool: &Pool, words: &mut Words, sizes: Sizes) {
-    let table = table_of(rule);
-    match wrong_words(rule, table, row, pool, words, sizes) {
-        Wrong::Word(column) => {
-            say::number_behind(b", word ", column as u64);
-            say::number_behind(b" is ", word_at(words, table, row, column) as u64);
-        }
-        Wrong::Pair(first, second) => {
-            say::number_behind(b", words ", first as u64);
-            say::number_behind(b" and ", second as u64);
-        }
-        _ => {}
-    }
+// The line that gives a row.
+fn print_line(text: &[u8], table: usize, row: u32, pool: &mut Pool, words: &mut Words)
+    requires { ⌜ table < 16 ⌝ }
+{
+    let line = line_of_row(text, pool, words, table, row);
+    say::number_behind(b"line ", line as u64);
+    say::words(b", ");
 }
 
 // The row of a broken rule: its line, where it is there, its table and its number.
@@ -50,8 +41,7 @@ fn print_row(text: &[u8], table: usize, row: u32, pool: &mut Pool, words: &mut W
     requires { ⌜ table < 16 ⌝ }
 {
     if row_start(table, row) < sizes[table] {
-        say::number_behind(b"line ", line_of_row(text, pool, words, table, row) as u64);
-        say::words(b", ");
+        print_line(text, table, row, pool, words);
     }
     print_table(table);
     say::number_behind(b" row ", row as u64);
@@ -71,7 +61,7 @@ fn print_where(
         Subject::Table => print_table(table),
         Subject::Numbers => {
             print_row(text, table, row, pool, words, sizes);
-            print_wrong_words(rule, row, pool, words, sizes);
+            print_wrong_words(rule, table, row, pool, words, sizes);
         }
         _ => print_row(text, table, row, pool, words, sizes),
     }

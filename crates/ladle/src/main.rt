@@ -10,20 +10,14 @@ mod say;
 mod sentences;
 mod table_files;
 
+use rows::strings::is_same;
 use table_files::Question;
 
 // Whether the first argument is this word.
-fn is_verb(word: &[u8; 5]) -> bool {
+fn is_verb(word: &[u8]) -> bool {
     let mut verb = [0u8; 8];
     let n = os::arg(1, &mut verb);
-    if n != 5 {
-        return false;
-    }
-    verb[0] == word[0]
-        && verb[1] == word[1]
-        && verb[2] == word[2]
-        && verb[3] == word[3]
-        && verb[4] == word[4]
+    is_same(&verb[..n], word)
 }
 
 fn answer_argument(number: usize, is_one_of_several: bool) {

@@ -1,4 +1,5 @@
 // Which words of a row are wrong: another number in the place of one would mend the row.
+use crate::say;
 use table_file::layout;
 use table_file::layout::Pool;
 use table_file::layout::Sizes;
@@ -9,14 +10,6 @@ ghost use Prim.Native.Nat.{_<_};
 use tables::broken::Broken;
 use tables::rulebook::Rule;
 use verdict::entries::first_broken;
-
-// Which words of a row are wrong: one, two that stand side by side, as a range or a string, or several.
-pub enum Wrong {
-    Nothing,
-    Word(usize),
-    Pair(usize, usize),
-    Several,
-}
 
 // Where a word lies among those of all tables.
 fn place_of(table: usize, row: u32, column: usize) -> usize
@@ -33,16 +26,8 @@ fn place_of(table: usize, row: u32, column: usize) -> usize
     table * layout::REGION + start + column
 }
 
-// The word in a column of a row.
-pub(crate) fn word_at(words: &Words, table: usize, row: u32, column: usize) -> u32
-    requires { ⌜ table < 16 ⌝ }
-{
-    let place = place_of(table, row, column);
-    words[place]
-}
-
-// Whether the rule would hold at the row with this number for a word.
-fn mends(
+// Whether the rule holds at the row once this number stands for a word.
+fn is_mended_by(
     rule: Rule,
     row: u32,
     place: usize,
@@ -53,32 +38,16 @@ fn mends(
 ) -> bool
     requires { ⌜ place < 330240 ⌝ }
 {
-    let word = words[place];
     words[place] = number;
-    let broken = first_broken(rule, pool, words, sizes);
-    words[place] = word;
-    match broken {
+    match first_broken(rule, pool, words, sizes) {
         Broken::At(first) => first != row,
         Broken::Nowhere => true,
     }
 }
 
-// The numbers that are tried are the least kinds and rows, and the row behind this one, where children may begin.
-fn is_mended_at(
-    rule: Rule,
-    row: u32,
-    place: usize,
-    pool: &Pool,
-    words: &mut Words,
-    sizes: Sizes,
-) -> bool
-    requires { ⌜ place < 330240 ⌝ }
-{
-    let behind = if row < 4294967295 { row + 1 } else { row };
-    mends(rule, row, place, 0, pool, words, sizes)
-        || mends(rule, row, place, 1, pool, words, sizes)
-        || mends(rule, row, place, 2, pool, words, sizes)
-        || mends(rule, row, place, behind, pool, words, sizes)
+// The row behind a row: where its children may begin, and a number other than 0.
+fn behind(row: u32) -> u32 {
+    if row < 4294967295 { row + 1 } else { row }
 }
 
 // A kind that is known is not what is wrong, though as another kind nearly every row is right.
@@ -94,6 +63,7 @@ fn is_known_kind(table: usize, column: usize, word: u32) -> bool {
     }
 }
 
+// Whether another number would mend the row. Those that are tried are 0 and the row behind.
 fn is_wrong(
     rule: Rule,
     table: usize,
@@ -105,46 +75,40 @@ fn is_wrong(
 ) -> bool
     requires { ⌜ table < 16 ⌝ }
 {
-    if is_known_kind(table, column, word_at(words, table, row, column)) {
+    let place = place_of(table, row, column);
+    let word = words[place];
+    if is_known_kind(table, column, word) {
         return false;
     }
-    is_mended_at(rule, row, place_of(table, row, column), pool, words, sizes)
+    let is_mended = is_mended_by(rule, row, place, 0, pool, words, sizes)
+        || is_mended_by(rule, row, place, behind(row), pool, words, sizes);
+    words[place] = word;
+    is_mended
 }
 
-// With one more word that is wrong.
-fn and_word(wrong: Wrong, column: usize) -> Wrong {
-    match wrong {
-        Wrong::Nothing => Wrong::Word(column),
-        Wrong::Word(first) => {
-            if first < column && column - first == 1 {
-                Wrong::Pair(first, column)
-            } else {
-                Wrong::Several
-            }
-        }
-        _ => Wrong::Several,
-    }
+fn print_word(column: usize, word: u32) {
+    say::number_behind(b", word ", column as u64);
+    say::number_behind(b" is ", word as u64);
 }
 
-// The words of a row for any one of which another number would mend it, where the rule is broken.
-pub(crate) fn wrong_words(
+// Prints each word of a row for which another number would mend it, where the rule is broken.
+pub(crate) fn print_wrong_words(
     rule: Rule,
     table: usize,
     row: u32,
     pool: &Pool,
     words: &mut Words,
     sizes: Sizes,
-) -> Wrong
+)
     requires { ⌜ table < 16 ⌝ }
 {
     let width = row_width(table);
-    let mut wrong = Wrong::Nothing;
     let mut column = 0;
     while column < width {
         if is_wrong(rule, table, row, column, pool, words, sizes) {
-            wrong = and_word(wrong, column);
+            let place = place_of(table, row, column);
+            print_word(column, words[place]);
         }
         column += 1;
     }
-    wrong
 }

@@ -28,6 +28,10 @@ pub struct Times {
     pub fault: Fault,
 }
 
+fn is_times(first: u8, second: &[u8]) -> bool {
+    is_digit(first) && is_same(second, b"*")
+}
+
 // What stands before a line's tokens: `N *`, or nothing.
 fn times_of(text: &[u8], from: usize) -> Times
     requires { ⌜ from ≤ length (now text) ⌝ }
@@ -36,7 +40,7 @@ fn times_of(text: &[u8], from: usize) -> Times
     let end = token_end(text, from);
     let star = skip_blanks(text, end);
     let star_end = token_end(text, star);
-    if !is_digit(byte_at(text, from)) || !is_same(&text[star..star_end], b"*") {
+    if !is_times(byte_at(text, from), &text[star..star_end]) {
         return Times {
             at: from,
             times: 1,
