@@ -19,7 +19,8 @@ fn string_columns(table: &str, row: &[u32]) -> &'static [usize] {
 ///
 /// Strings are written where they stand, so that a reader can read them; reading gives each its
 /// own bytes. Where that would make the pool too long, or a string lies outside of the pool, the
-/// pool is written as it is and strings by their two words.
+/// pool is written as it is and strings by their two words. A last row that is not whole is written
+/// as it is, and no reader takes it.
 pub fn write(tables: &Tables) -> String {
     let quoted = strings_fit(tables);
     let mut text = String::new();
