@@ -58,7 +58,8 @@ unfolding tableOf
 table-short words sizes k w h = simp length-take (omega (arith, w .tables k h))
 
 -- a row among the names is a small number
-pub few-names : (words sizes names : List ℕ) (row : ℕ) → Within sizes → names ≡ tableOf words sizes 1 → row ≤ rowsOf names nameWidth → row ≤ 10320
+pub few-names :
+    (words sizes names : List ℕ) (row : ℕ) → Within sizes → names ≡ tableOf words sizes 1 → row ≤ rowsOf names nameWidth → row ≤ 10320
 unfolding rowsOf
 few-names words sizes names row w e h =
     let l : length names ≤ 20640 = rw e (table-short words sizes 1 w (omega arith)) in

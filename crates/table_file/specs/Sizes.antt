@@ -2,7 +2,8 @@
 use Prim.Native.Nat.{ℕ, _<_, _≤_}
 use mathlib.Core.List.{List, [], _∷_}
 use lib.ListN.{getD}
-use Rattle.rows.specs.Layout.{nameWidth, typeRefWidth, typeWidth, memberWidth, fieldWidth, argumentWidth, setWidth, selectionWidth, givenWidth, fragmentWidth, nodeWidth, literalWidth, variableWidth, answerWidth}
+use Rattle.rows.specs.Layout.{nameWidth, typeRefWidth, typeWidth, memberWidth, fieldWidth, argumentWidth, setWidth, selectionWidth}
+use Rattle.rows.specs.Layout.{givenWidth, fragmentWidth, nodeWidth, literalWidth, variableWidth, answerWidth}
 
 -- how many words there is room for in a table's region
 abbrev pub region : ℕ

@@ -1,4 +1,4 @@
--- Each line moves on by a byte at least, so there are no more lines than bytes; where nothing is held the sizes are within their bounds. Assumes nothing.
+-- Each line is a byte long at least, so there are no more lines than bytes. Where nothing is held, sizes are within their bounds. Assumes nothing.
 use borrow.Author.Needs.{needs}
 use Prim.Native.Nat.{_≤_, _-_}
 use lib.ListN.{length}
@@ -8,7 +8,8 @@ use Rattle.table_file.proofs.lines.read_beyond.Statement.{statement}
 use Rattle.table_file.proofs.lines.read_beyond.Tie as tie
 
 abbrev Inv-loop : tie.InvT-loop
-Inv-loop text pool₀ words₀ table most sizes₀ at₀ number₀ line₀ pool words sizes at number line = (at ≤ length text) × (line ≤ at) × (number ≤ 16) × Within sizes
+Inv-loop text pool₀ words₀ table most sizes₀ at₀ number₀ line₀ pool words sizes at number line =
+    (at ≤ length text) × (line ≤ at) × (number ≤ 16) × Within sizes
 
 abbrev μ-loop : tie.MeasureT-loop
 μ-loop text pool₀ words₀ table most sizes₀ at₀ number₀ line₀ pool words sizes at number line = length text - at

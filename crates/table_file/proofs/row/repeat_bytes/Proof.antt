@@ -1,4 +1,4 @@
--- All bytes fit before the first is copied. Assumes nothing.
+-- All bytes fit into the pool before the first is copied. Assumes nothing.
 use borrow.Author.Needs.{needs}
 use Prim.Native.Nat.{_≤_, _-_}
 use native.Mathlib.Omega.{arith}

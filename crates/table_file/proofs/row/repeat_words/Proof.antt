@@ -1,4 +1,4 @@
--- Whole words of its own region are read and written, since all of them fit before the first is copied. Assumes nothing.
+-- All words fit into the table's region before the first is copied. Assumes nothing.
 use borrow.Author.Needs.{needs}
 use Prim.Native.Nat.{_≤_, _-_}
 use native.Mathlib.Omega.{arith}

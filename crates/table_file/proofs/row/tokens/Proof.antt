@@ -1,4 +1,4 @@
--- Each token moves on by a byte at least. Assumes nothing.
+-- Each token is a byte long at least. Assumes nothing.
 use borrow.Author.Needs.{needs}
 use Prim.Native.Nat.{_≤_, _-_}
 use lib.ListN.{length}

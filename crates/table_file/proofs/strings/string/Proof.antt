@@ -1,4 +1,4 @@
--- Each turn passes one letter and fills one byte. Assumes nothing.
+-- Each letter takes a byte of the text at least, and fills one of the pool. Assumes nothing.
 use borrow.Author.Needs.{needs}
 use Prim.Native.Nat.{_≤_, _-_}
 use lib.ListN.{length}
