@@ -1,5 +1,5 @@
 // One table file: its answer, or why it is none.
-use crate::explain;
+use crate::explain::print_broken_rules;
 use crate::faults::print_fault;
 use crate::faults::print_file_fault;
 use crate::say;
@@ -8,11 +8,10 @@ use table_file::layout;
 use table_file::layout::Pool;
 use table_file::layout::Sizes;
 use table_file::layout::Words;
-use tables::check::LAWFUL;
 use tables::check::UNLAWFUL;
 use verdict::entries;
 use verdict::file;
-use verdict::words::print_depth as print_depth_answer;
+use verdict::words::print_depth;
 
 // What is asked about a file's tables.
 pub enum Question {
@@ -20,31 +19,20 @@ pub enum Question {
     Depth,
 }
 
-// The table check's code, and under it what is wrong.
-fn print_code(text: &[u8], pool: &mut Pool, words: &mut Words, sizes: Sizes) {
-    let code = entries::code(pool, words, sizes);
-    say::number(code as u64);
-    say::words(b"\n");
-    if code != LAWFUL {
-        explain::print_broken_rules(text, pool, words, sizes);
-    }
-}
-
-// The depth check's answer, and under it what is wrong where the tables are not lawful.
-fn print_depth(text: &[u8], pool: &mut Pool, words: &mut Words, sizes: Sizes) {
-    let answer = entries::depth(pool, words, sizes);
-    let code = answer.code;
-    print_depth_answer(answer);
-    say::words(b"\n");
-    if code == UNLAWFUL {
-        explain::print_broken_rules(text, pool, words, sizes);
-    }
-}
-
-fn print_answer(question: Question, text: &[u8], pool: &mut Pool, words: &mut Words, sizes: Sizes) {
+// Prints the answer, and gives its code.
+fn print_answer(question: Question, pool: &Pool, words: &Words, sizes: Sizes) -> u32 {
     match question {
-        Question::Check => print_code(text, pool, words, sizes),
-        Question::Depth => print_depth(text, pool, words, sizes),
+        Question::Check => {
+            let code = entries::code(pool, words, sizes);
+            say::number(code as u64);
+            code
+        }
+        Question::Depth => {
+            let answer = entries::depth(pool, words, sizes);
+            let code = answer.code;
+            print_depth(answer);
+            code
+        }
     }
 }
 
@@ -57,6 +45,7 @@ fn print_no_table_file(path: &[u8], line: usize, why: Fault, token: &[u8]) {
     say::words(b"\n");
 }
 
+// The answer for a text's tables, and under it what is wrong where they are not lawful.
 fn answer_text(question: Question, path: &[u8], is_one_of_several: bool, text: &[u8]) {
     let mut pool = layout::new_pool();
     let mut words = layout::new_words();
@@ -73,7 +62,11 @@ fn answer_text(question: Question, path: &[u8], is_one_of_several: bool, text: &
         say::words(b": ");
     }
     let sizes = contents.sizes;
-    print_answer(question, text, &mut pool, &mut words, sizes);
+    let code = print_answer(question, &pool, &words, sizes);
+    say::words(b"\n");
+    if code == UNLAWFUL {
+        print_broken_rules(text, &mut pool, &mut words, sizes);
+    }
 }
 
 pub(crate) fn answer(question: Question, path: &[u8], is_one_of_several: bool) {

@@ -5,9 +5,7 @@ use crate::layout::Pool;
 use crate::layout::Sizes;
 use crate::layout::Words;
 use crate::layout::row_width;
-use crate::numbers::is_digit;
 use crate::numbers::word_number;
-use crate::scan::byte_at;
 use crate::scan::ends_line;
 use crate::scan::skip_blanks;
 use crate::scan::token_end;
@@ -25,11 +23,10 @@ ghost use Rattle.table_file.specs.Sizes.{Within};
 pub struct Times {
     pub at: usize,
     pub times: usize,
-    pub fault: Fault,
 }
 
-fn is_times(first: u8, second: &[u8]) -> bool {
-    is_digit(first) && is_same(second, b"*")
+fn is_star(token: &[u8]) -> bool {
+    is_same(token, b"*")
 }
 
 // What stands before a line's tokens: `N *`, or nothing.
@@ -40,20 +37,17 @@ fn times_of(text: &[u8], from: usize) -> Times
     let end = token_end(text, from);
     let star = skip_blanks(text, end);
     let star_end = token_end(text, star);
-    if !is_times(byte_at(text, from), &text[star..star_end]) {
-        return Times {
-            at: from,
-            times: 1,
-            fault: Fault::Fine,
-        };
+    if is_star(&text[star..star_end]) {
+        let n = word_number(&text[from..end]);
+        let why = n.fault;
+        if let Fault::Fine = why {
+            return Times {
+                at: star_end,
+                times: n.value as usize,
+            };
+        }
     }
-    let n = word_number(&text[from..end]);
-    let why = n.fault;
-    Times {
-        at: star_end,
-        times: n.value as usize,
-        fault: why,
-    }
+    Times { at: from, times: 1 }
 }
 
 // Reads tokens up to the line's end. A fault is where its token begins.
@@ -279,13 +273,6 @@ pub(crate) fn line_of_rows(
     ensures { λ r. ⌜ (from ≤ r .at) × (r .at ≤ length (now (text .entry))) × Within (now (sizes .exit)) ⌝ }
 {
     let times = times_of(text, from);
-    let why = times.fault;
-    let Fault::Fine = why else {
-        return Step {
-            at: from,
-            fault: why,
-        };
-    };
     if number == layout::POOL {
         return pool_line(text, times.at, times.times, pool, words, sizes);
     }

@@ -48,7 +48,7 @@ impl Reader {
             return Ok(());
         }
         let table = self.open.ok_or("a row before the first table, as [names]")?;
-        let (times, tokens) = repetition(line)?;
+        let (times, tokens) = repetition(line);
         match table {
             "pool" => self.pool_line(times, tokens),
             _ => self.rows(table, times, tokens),
@@ -209,12 +209,11 @@ fn quoting(why: &str, token: &[u8]) -> Message {
 }
 
 /// How often the words of a line stand, `N *`, and its tokens.
-fn repetition(line: &[u8]) -> Result<(u32, &[u8]), Message> {
+fn repetition(line: &[u8]) -> (u32, &[u8]) {
     let (number, behind) = token::split(line);
     let (star, tokens) = token::split(behind);
-    if line[0].is_ascii_digit() && star == b"*" {
-        let times = token::word(number).map_err(|why| quoting(why, number))?;
-        return Ok((times, tokens));
+    match token::word(number) {
+        Ok(times) if star == b"*" => (times, tokens),
+        _ => (1, line),
     }
-    Ok((1, line))
 }
