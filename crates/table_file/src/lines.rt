@@ -154,11 +154,26 @@ fn read_beyond(
     }
 }
 
-// Reads a table file.
+// Reads a table file. Where the root has more than one number, reading stops with the second.
 pub fn read(text: &[u8], pool: &mut Pool, words: &mut Words) -> Contents
     ensures { λ r. ⌜ Read (now (text .entry)) r ⌝ }
 {
-    read_beyond(text, pool, words, layout::ROOT, layout::REGION)
+    let contents = read_beyond(text, pool, words, layout::ROOT, 1);
+    let why = contents.fault;
+    let Fault::Fine = why else {
+        return contents;
+    };
+    let sizes = contents.sizes;
+    if sizes[layout::ROOT] <= 1 {
+        return contents;
+    }
+    Contents {
+        sizes: sizes,
+        line: contents.line,
+        from: contents.from,
+        to: contents.to,
+        fault: Fault::RootGivenTwice,
+    }
 }
 
 // The line that gives a row of a table. The text is read again up to it, into the same pool and words.

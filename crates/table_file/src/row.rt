@@ -276,16 +276,5 @@ pub(crate) fn line_of_rows(
     if number == layout::POOL {
         return pool_line(text, times.at, times.times, pool, words, sizes);
     }
-    let step = words_line(number, text, times.at, times.times, pool, words, sizes);
-    let why = step.fault;
-    let Fault::Fine = why else {
-        return step;
-    };
-    if table_size(sizes, layout::ROOT) > 1 {
-        return Step {
-            at: from,
-            fault: Fault::RootGivenTwice,
-        };
-    }
-    step
+    words_line(number, text, times.at, times.times, pool, words, sizes)
 }
