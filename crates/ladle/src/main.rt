@@ -1,38 +1,23 @@
 // ladle check FILE..: whether the tables of a table file are lawful, and if not, why not.
-// ladle depth FILE..: how deep its operation nests lists.
+// ladle depth FILE..: how deep its operation goes.
+mod about;
 mod explain;
+mod faults;
+mod help;
 mod lists;
+mod mending;
 mod say;
+mod sentences;
 mod table_files;
 
+use rows::strings::is_same;
 use table_files::Question;
 
-fn usage() {
-    say::words(
-        b"usage: ladle check FILE..\n\
-        \x20      ladle depth FILE..\n\
-        \n\
-        check prints 0 where the tables of a file are lawful, otherwise 1 and what is wrong:\n\
-        which table, which row, which rule. depth prints the depth check's code, with the\n\
-        depth behind 0 and behind 8 the place at which the operation is too deep.\n\
-        \n\
-        docs/TABLES.md describes the tables and the file; kits/segments.tables is one to\n\
-        start from.\n",
-    );
-}
-
 // Whether the first argument is this word.
-fn is_verb(word: &[u8; 5]) -> bool {
+fn is_verb(word: &[u8]) -> bool {
     let mut verb = [0u8; 8];
     let n = os::arg(1, &mut verb);
-    if n != 5 {
-        return false;
-    }
-    verb[0] == word[0]
-        && verb[1] == word[1]
-        && verb[2] == word[2]
-        && verb[3] == word[3]
-        && verb[4] == word[4]
+    is_same(&verb[..n], word)
 }
 
 fn answer_argument(number: usize, is_one_of_several: bool) {
@@ -56,11 +41,11 @@ fn is_known_verb() -> bool {
 fn main() {
     let count = os::arg_count();
     if count < 3 {
-        usage();
+        help::print();
         return;
     }
     if !is_known_verb() {
-        usage();
+        help::print();
         return;
     }
     let mut number: usize = 2;

@@ -8,3 +8,9 @@ pub(crate) fn words(text: &[u8]) {
 pub(crate) fn number(n: u64) {
     io::print_decimal(STDOUT_FILENO, n);
 }
+
+// A number with a text before it.
+pub(crate) fn number_behind(text: &[u8], n: u64) {
+    words(text);
+    number(n);
+}

@@ -1,17 +1,17 @@
 // One table file: its answer, or why it is none.
-use crate::explain;
-use crate::lists::line;
+use crate::explain::print_broken_rules;
+use crate::faults::print_fault;
+use crate::faults::print_file_fault;
 use crate::say;
-use table_file::fault;
+use table_file::fault::Fault;
 use table_file::layout;
 use table_file::layout::Pool;
 use table_file::layout::Sizes;
 use table_file::layout::Words;
-use tables::check::LAWFUL;
 use tables::check::UNLAWFUL;
 use verdict::entries;
 use verdict::file;
-use verdict::words::print_depth as print_depth_answer;
+use verdict::words::print_depth;
 
 // What is asked about a file's tables.
 pub enum Question {
@@ -19,98 +19,67 @@ pub enum Question {
     Depth,
 }
 
-// What kept a file's text from being read, in the order of `verdict::file`'s numbers.
-fn print_file_fault(why: u32) {
-    say::words(line(
-        b"\n\
-        cannot be opened\n\
-        cannot be read\n\
-        is larger than the 1,048,576 bytes that ladle reads",
-        why as usize,
-    ));
-}
-
-// Why a text is no table file, in the order of `table_file::fault`'s numbers.
-fn print_fault(why: u32) {
-    say::words(line(
-        b"\n\
-        a row before the first table, as [names]\n\
-        no such table\n\
-        nothing but a comment may follow a table's name\n\
-        a number has digits only, and an L behind a 64-bit one\n\
-        the number is too large\n\
-        no such word in this table\n\
-        no such name in [names] so far\n\
-        the string is not closed on its line\n\
-        an escape is one of \\\" \\\\ \\n \\t \\xHH\n\
-        a blank has to follow a string\n\
-        [pool] holds strings only\n\
-        more rows than ladle holds\n\
-        more bytes of strings than ladle holds\n\
-        [root] has one number",
-        why as usize,
-    ));
-}
-
-// The table check's code, and under it what is wrong.
-fn print_code(pool: &Pool, words: &Words, sizes: Sizes) {
-    let code = entries::code(pool, words, sizes);
-    say::number(code as u64);
-    say::words(b"\n");
-    if code != LAWFUL {
-        explain::print_broken_rules(pool, words, sizes);
-    }
-}
-
-// The depth check's answer, and under it what is wrong where the tables are not lawful.
-fn print_depth(pool: &Pool, words: &Words, sizes: Sizes) {
-    let answer = entries::depth(pool, words, sizes);
-    let code = answer.code;
-    print_depth_answer(answer);
-    say::words(b"\n");
-    if code == UNLAWFUL {
-        explain::print_broken_rules(pool, words, sizes);
-    }
-}
-
-fn print_answer(question: Question, pool: &Pool, words: &Words, sizes: Sizes) {
+// Prints the answer, and gives its code.
+fn print_answer(question: Question, pool: &Pool, words: &Words, sizes: Sizes) -> u32 {
     match question {
-        Question::Check => print_code(pool, words, sizes),
-        Question::Depth => print_depth(pool, words, sizes),
+        Question::Check => {
+            let code = entries::code(pool, words, sizes);
+            say::number(code as u64);
+            code
+        }
+        Question::Depth => {
+            let answer = entries::depth(pool, words, sizes);
+            let code = answer.code;
+            print_depth(answer);
+            code
+        }
     }
 }
 
+// Where and why a text is no table file.
+fn print_no_table_file(path: &[u8], line: usize, why: Fault, token: &[u8]) {
+    say::words(path);
+    say::number_behind(b":", line as u64);
+    say::words(b": ");
+    print_fault(why, token);
+    say::words(b"\n");
+}
+
+// The answer for a text's tables, and under it what is wrong where they are not lawful.
 fn answer_text(question: Question, path: &[u8], is_one_of_several: bool, text: &[u8]) {
     let mut pool = layout::new_pool();
     let mut words = layout::new_words();
     let contents = table_file::read(text, &mut pool, &mut words);
-    if contents.fault != fault::FINE {
-        say::words(path);
-        say::words(b":");
-        say::number(contents.line as u64);
-        say::words(b": ");
-        print_fault(contents.fault);
-        say::words(b"\n");
+    let why = contents.fault;
+    let Fault::Fine = why else {
+        let from = contents.from;
+        let to = contents.to;
+        print_no_table_file(path, contents.line, why, &text[from..to]);
         return;
-    }
+    };
     if is_one_of_several {
         say::words(path);
         say::words(b": ");
     }
     let sizes = contents.sizes;
-    print_answer(question, &pool, &words, sizes);
+    let code = print_answer(question, &pool, &words, sizes);
+    say::words(b"\n");
+    if code == UNLAWFUL {
+        print_broken_rules(text, &mut pool, &mut words, sizes);
+    }
 }
 
 pub(crate) fn answer(question: Question, path: &[u8], is_one_of_several: bool) {
     let mut text = file::new_text();
     let read = file::read_text(path, &mut text);
-    if read.fault != file::FINE {
+    let why = read.fault;
+    let file::Fault::Fine = why else {
         say::words(path);
         say::words(b": ");
-        print_file_fault(read.fault);
+        print_file_fault(why);
         say::words(b"\n");
         return;
-    }
+    };
     answer_text(
         question,
         path,

@@ -3,7 +3,7 @@ mod cases;
 
 use cases::next_case;
 use libc::STDOUT_FILENO;
-use table_file::fault;
+use table_file::fault::Fault;
 use table_file::layout;
 use table_file::layout::Pool;
 use table_file::layout::Sizes;
@@ -25,11 +25,12 @@ fn answer_tables(text: &[u8]) {
     let mut pool = layout::new_pool();
     let mut words = layout::new_words();
     let contents = table_file::read(text, &mut pool, &mut words);
-    if contents.fault != fault::FINE {
+    let why = contents.fault;
+    let Fault::Fine = why else {
         say(b"is no table file: line ");
         io::print_decimal(STDOUT_FILENO, contents.line as u64);
         return;
-    }
+    };
     let sizes = contents.sizes;
     print_answer(&pool, &words, sizes);
 }
@@ -69,11 +70,12 @@ fn replay_argument(number: usize) {
     }
     let mut text = file::new_text();
     let read = file::read_text(&path[..n], &mut text);
-    if read.fault != file::FINE {
+    let why = read.fault;
+    let file::Fault::Fine = why else {
         say(&path[..n]);
         say(b" cannot be read\n");
         return;
-    }
+    };
     replay(file::bytes(&text, read.length));
 }
 

@@ -1,13 +1,14 @@
 -- Sizes stay within their bounds when one of them is set to a number within its own, and bound what is held. Assumes nothing.
-use Prim.Native.Nat.{ℕ, suc, zero, _<_, _≤_}
+use Prim.Native.Nat.{ℕ, suc, zero, _+_, _*_, _<_, _≤_}
 use mathlib.Core.Path.{_≡_, sym}
 use mathlib.Core.List.{List, [], _∷_}
+use native.Mathlib.Nat.{mul-le-mul}
 use native.Mathlib.Omega.{arith}
 use lib.ListN.{length, getD, set, replicate, length-take}
 use lib.Seq.{getD-set-other, take-all}
 use Rattle.rows.specs.Layout.{nameWidth}
 use Rattle.rows.specs.Rows.{rowsOf}
-use Rattle.table_file.specs.Sizes.{Within}
+use Rattle.table_file.specs.Sizes.{Within, widths, widthOf}
 use Rattle.table_file.specs.Held.{poolOf, tableOf}
 
 -- what bounds an element and what is stored bounds the element after the store
@@ -57,8 +58,30 @@ unfolding tableOf
 table-short words sizes k w h = simp length-take (omega (arith, w .tables k h))
 
 -- a row among the names is a small number
-pub few-names : (words sizes names : List ℕ) (row : ℕ) → Within sizes → names ≡ tableOf words sizes 1 → row ≤ rowsOf names nameWidth → row ≤ 10320
+pub few-names :
+    (words sizes names : List ℕ) (row : ℕ) → Within sizes → names ≡ tableOf words sizes 1 → row ≤ rowsOf names nameWidth → row ≤ 10320
 unfolding rowsOf
 few-names words sizes names row w e h =
     let l : length names ≤ 20640 = rw e (table-short words sizes 1 w (omega arith)) in
     omega arith
+
+-- so many words or bytes, as often as a word can say, are counted without wrapping
+pub copies-fit : (count times : ℕ) → count ≤ 69632 → times ≤ 4294967295 → count * times < 18446744073709551616
+copies-fit count times h k = omega (arith, mul-le-mul h k)
+
+sum : List ℕ → ℕ
+sum [] = 0
+sum (x ∷ xs) = x + sum xs
+
+below-sum : (xs : List ℕ) (k : ℕ) → getD xs k 0 ≤ sum xs
+unfolding sum
+below-sum [] k = omega arith
+below-sum (x ∷ xs) zero = let h : x ≤ x + sum xs = omega arith in h
+below-sum (x ∷ xs) (suc k) = let h : getD xs k 0 ≤ x + sum xs = omega (arith, below-sum xs k) in h
+
+-- where a row begins is counted without wrapping
+pub row-fits : (number row : ℕ) → row ≤ 4294967295 → widthOf number * row < 18446744073709551616
+unfolding widthOf sum
+row-fits number row h =
+    let narrow : getD widths number 0 ≤ 57 = below-sum widths number in
+    copies-fit (getD widths number 0) row (omega arith) h

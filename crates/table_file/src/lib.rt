@@ -1,7 +1,6 @@
 // Reads a table file, the text form of the sixteen tables, into words and a pool of bytes.
 //
-// What the numbers mean is not looked at here: every row of numbers can be written, also one with
-// too few or too many words, and it is the table check that judges it.
+// A line has whole rows. What their numbers mean is not looked at here: that is the table check's to judge.
 pub mod fault;
 mod keywords;
 pub mod layout;
@@ -15,6 +14,7 @@ mod strings;
 mod tokens;
 
 pub use lines::Contents;
+pub use lines::line_of_row;
 pub use lines::read;
 pub use store::pool_bytes;
 pub use store::root;

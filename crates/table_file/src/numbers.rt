@@ -1,10 +1,10 @@
 // Decimal numbers.
-use crate::fault;
+use crate::fault::Fault;
 ghost use Prim.Native.Nat.{_≤_};
 
 pub struct Number {
     pub value: u64,
-    pub fault: u32,
+    pub fault: Fault,
 }
 
 pub(crate) fn is_digit(b: u8) -> bool {
@@ -27,7 +27,7 @@ pub(crate) fn decimal(token: &[u8]) -> Number {
     if token.len() == 0 {
         return Number {
             value: 0,
-            fault: fault::NOT_A_NUMBER,
+            fault: Fault::NotANumber,
         };
     }
     let mut value: u64 = 0;
@@ -37,20 +37,20 @@ pub(crate) fn decimal(token: &[u8]) -> Number {
         if d > 9 {
             return Number {
                 value: 0,
-                fault: fault::NOT_A_NUMBER,
+                fault: Fault::NotANumber,
             };
         }
         if value > 1844674407370955161 {
             return Number {
                 value: 0,
-                fault: fault::NUMBER_TOO_LARGE,
+                fault: Fault::NumberTooLarge,
             };
         }
         let tens = value * 10;
         if d > u64::MAX - tens {
             return Number {
                 value: 0,
-                fault: fault::NUMBER_TOO_LARGE,
+                fault: Fault::NumberTooLarge,
             };
         }
         value = tens + d;
@@ -58,7 +58,7 @@ pub(crate) fn decimal(token: &[u8]) -> Number {
     }
     Number {
         value: value,
-        fault: fault::FINE,
+        fault: Fault::Fine,
     }
 }
 
@@ -67,15 +67,11 @@ pub(crate) fn word_number(token: &[u8]) -> Number
     ensures { λ r. ⌜ r .value ≤ 4294967295 ⌝ }
 {
     let n = decimal(token);
-    let value = n.value;
-    if value > 4294967295 {
+    if n.value > 4294967295 {
         return Number {
             value: 0,
-            fault: fault::NUMBER_TOO_LARGE,
+            fault: Fault::NumberTooLarge,
         };
     }
-    Number {
-        value: value,
-        fault: n.fault,
-    }
+    n
 }

@@ -1,7 +1,7 @@
 // The words of the tables, each table in its region, and how many there are of each.
 //
 // `sizes` has the number of words of each table, and of the pool's bytes at 0.
-use crate::fault;
+use crate::fault::Fault;
 use crate::layout;
 use crate::layout::Sizes;
 use crate::layout::Words;
@@ -73,16 +73,16 @@ pub(crate) fn fill_pool(sizes: &mut Sizes, filled: usize)
 }
 
 // Puts a word at a table's end, where there is room.
-pub(crate) fn append(words: &mut Words, sizes: &mut Sizes, number: usize, word: u32) -> u32
+pub(crate) fn append(words: &mut Words, sizes: &mut Sizes, number: usize, word: u32) -> Fault
     requires { ⌜ (0 < number) × (number < 16) × Within (now sizes) ⌝ }
     ensures { λ r. ⌜ Within (now (sizes .exit)) ⌝ }
 {
     let size = sizes[number];
     if size >= layout::REGION {
-        return fault::TABLE_FULL;
+        return Fault::TableFull;
     }
     let place = number * layout::REGION + size;
     words[place] = word;
     sizes[number] = size + 1;
-    fault::FINE
+    Fault::Fine
 }

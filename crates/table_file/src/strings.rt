@@ -1,5 +1,5 @@
 // Strings, whose bytes go to the pool.
-use crate::fault;
+use crate::fault::Fault;
 use crate::layout;
 use crate::layout::Pool;
 use crate::scan::byte_at;
@@ -12,14 +12,14 @@ ghost use lib.ListN.{length};
 pub struct Letter {
     pub at: usize,
     pub byte: u8,
-    pub fault: u32,
+    pub fault: Fault,
 }
 
 // A string that was read: where it ends, and how many bytes the pool then has.
 pub struct Spelled {
     pub at: usize,
     pub filled: usize,
-    pub fault: u32,
+    pub fault: Fault,
 }
 
 // What a hexadecimal digit says, 16 for any other byte.
@@ -43,7 +43,7 @@ fn hex_escape(text: &[u8], from: usize) -> Letter
         return Letter {
             at: from,
             byte: 0,
-            fault: fault::UNKNOWN_ESCAPE,
+            fault: Fault::UnknownEscape,
         };
     }
     let high = hex_digit(text[from]);
@@ -52,20 +52,20 @@ fn hex_escape(text: &[u8], from: usize) -> Letter
         return Letter {
             at: from,
             byte: 0,
-            fault: fault::UNKNOWN_ESCAPE,
+            fault: Fault::UnknownEscape,
         };
     }
     if low > 15 {
         return Letter {
             at: from,
             byte: 0,
-            fault: fault::UNKNOWN_ESCAPE,
+            fault: Fault::UnknownEscape,
         };
     }
     Letter {
         at: from + 2,
         byte: high * 16 + low,
-        fault: fault::FINE,
+        fault: Fault::Fine,
     }
 }
 
@@ -91,14 +91,14 @@ fn letter_at(text: &[u8], at: usize) -> Letter
         return Letter {
             at: next,
             byte: b,
-            fault: fault::FINE,
+            fault: Fault::Fine,
         };
     }
     if next == text.len() {
         return Letter {
             at: next,
             byte: 0,
-            fault: fault::UNKNOWN_ESCAPE,
+            fault: Fault::UnknownEscape,
         };
     }
     let kind = text[next];
@@ -110,18 +110,18 @@ fn letter_at(text: &[u8], at: usize) -> Letter
         return Letter {
             at: next,
             byte: 0,
-            fault: fault::UNKNOWN_ESCAPE,
+            fault: Fault::UnknownEscape,
         };
     }
     Letter {
         at: next + 1,
         byte: meant,
-        fault: fault::FINE,
+        fault: Fault::Fine,
     }
 }
 
 // What is read of a string so far, and why no more, if something is wrong.
-fn so_far(at: usize, filled: usize, why: u32) -> Spelled
+fn so_far(at: usize, filled: usize, why: Fault) -> Spelled
     ensures { λ r. ⌜ (r .at ≡ at) × (r .filled ≡ filled) ⌝ }
 {
     Spelled {
@@ -136,9 +136,9 @@ fn closed(text: &[u8], at: usize, filled: usize) -> Spelled
     ensures { λ r. ⌜ (r .at ≡ at) × (r .filled ≡ filled) ⌝ }
 {
     if ends_token(byte_at(text, at)) {
-        return so_far(at, filled, fault::FINE);
+        return so_far(at, filled, Fault::Fine);
     }
-    so_far(at, filled, fault::AFTER_STRING)
+    so_far(at, filled, Fault::AfterString)
 }
 
 // Appends the bytes of the string whose opening quote stands before `from`.
@@ -154,18 +154,19 @@ pub(crate) fn string(text: &[u8], from: usize, pool: &mut Pool, before: usize) -
             return closed(text, at + 1, filled);
         }
         if b == b'\n' {
-            return so_far(at, filled, fault::STRING_NOT_CLOSED);
+            return so_far(at, filled, Fault::StringNotClosed);
         }
         let letter = letter_at(text, at);
-        if letter.fault != fault::FINE {
-            return so_far(at, filled, letter.fault);
-        }
+        let why = letter.fault;
+        let Fault::Fine = why else {
+            return so_far(at, filled, why);
+        };
         if filled >= layout::POOL_BYTES {
-            return so_far(at, filled, fault::POOL_FULL);
+            return so_far(at, filled, Fault::PoolFull);
         }
         pool[filled] = letter.byte;
         filled += 1;
         at = letter.at;
     }
-    so_far(at, filled, fault::STRING_NOT_CLOSED)
+    so_far(at, filled, Fault::StringNotClosed)
 }

@@ -1,5 +1,5 @@
 // One token of a row, and the words it gives.
-use crate::fault;
+use crate::fault::Fault;
 use crate::keywords::Word;
 use crate::keywords::keyword;
 use crate::layout;
@@ -26,7 +26,7 @@ ghost use Rattle.table_file.specs.Sizes.{Within};
 // How far the text is read.
 pub struct Step {
     pub at: usize,
-    pub fault: u32,
+    pub fault: Fault,
 }
 
 // What a token stands for: one word, or two.
@@ -34,7 +34,7 @@ pub struct Value {
     pub first: u32,
     pub second: u32,
     pub is_double: bool,
-    pub fault: u32,
+    pub fault: Fault,
 }
 
 fn one(word: u32) -> Value {
@@ -42,11 +42,11 @@ fn one(word: u32) -> Value {
         first: word,
         second: 0,
         is_double: false,
-        fault: fault::FINE,
+        fault: Fault::Fine,
     }
 }
 
-fn no_value(why: u32) -> Value {
+fn no_value(why: Fault) -> Value {
     Value {
         first: 0,
         second: 0,
@@ -61,11 +61,12 @@ fn long_value(digits: &[u8]) -> Value {
     let value = n.value;
     let low = (value % 4294967296) as u32;
     let high = (value / 4294967296) as u32;
+    let why = n.fault;
     Value {
         first: low,
         second: high,
         is_double: true,
-        fault: n.fault,
+        fault: why,
     }
 }
 
@@ -77,9 +78,10 @@ fn number_value(token: &[u8]) -> Value
         return long_value(&token[0..last]);
     }
     let n = word_number(token);
-    if n.fault != fault::FINE {
-        return no_value(n.fault);
-    }
+    let why = n.fault;
+    let Fault::Fine = why else {
+        return no_value(why);
+    };
     let value = n.value;
     one(value as u32)
 }
@@ -91,7 +93,7 @@ fn name_value(name: &[u8], more: u32, pool: &Pool, words: &Words, sizes: &Sizes)
     let names = table(words, *sizes, layout::NAMES);
     let row = find_name(name, pool_bytes(pool, *sizes), names);
     if row == row_count(names, NAME_WIDTH) {
-        return no_value(fault::UNKNOWN_NAME);
+        return no_value(Fault::UnknownName);
     }
     one(row + more)
 }
@@ -101,18 +103,19 @@ fn row_or_none(rest: &[u8], pool: &Pool, words: &Words, sizes: &Sizes) -> Value
     requires { ⌜ Within (now sizes) ⌝ }
 {
     if rest.len() == 0 {
-        return no_value(fault::NOT_A_NUMBER);
+        return no_value(Fault::NotANumber);
     }
     if rest[0] == b'\'' {
         return name_value(&rest[1..], 1, pool, words, sizes);
     }
     let n = word_number(rest);
-    if n.fault != fault::FINE {
-        return no_value(n.fault);
-    }
+    let why = n.fault;
+    let Fault::Fine = why else {
+        return no_value(why);
+    };
     let value = n.value;
     if value == 4294967295 {
-        return no_value(fault::NUMBER_TOO_LARGE);
+        return no_value(Fault::NumberTooLarge);
     }
     one((value + 1) as u32)
 }
@@ -120,7 +123,7 @@ fn row_or_none(rest: &[u8], pool: &Pool, words: &Words, sizes: &Sizes) -> Value
 fn word_value(number: usize, token: &[u8]) -> Value {
     match keyword(number, token) {
         Word::Known(w) => one(w),
-        Word::Unknown => no_value(fault::UNKNOWN_WORD),
+        Word::Unknown => no_value(Fault::UnknownWord),
     }
 }
 
@@ -145,19 +148,20 @@ fn token_value(number: usize, token: &[u8], pool: &Pool, words: &Words, sizes: &
 }
 
 // Puts a token's one word or two at the table's end.
-fn append_value(words: &mut Words, sizes: &mut Sizes, number: usize, value: Value) -> u32
+fn append_value(words: &mut Words, sizes: &mut Sizes, number: usize, value: Value) -> Fault
     requires { ⌜ (0 < number) × (number < 16) × Within (now sizes) ⌝ }
     ensures { λ r. ⌜ Within (now (sizes .exit)) ⌝ }
 {
-    if value.fault != fault::FINE {
-        return value.fault;
-    }
+    let why = value.fault;
+    let Fault::Fine = why else {
+        return why;
+    };
     let full = append(words, sizes, number, value.first);
-    if full != fault::FINE {
+    let Fault::Fine = full else {
         return full;
-    }
+    };
     if !value.is_double {
-        return fault::FINE;
+        return Fault::Fine;
     }
     append(words, sizes, number, value.second)
 }
@@ -179,27 +183,29 @@ fn string_token(
     let spelled = string(text, from, pool, start);
     let filled = spelled.filled;
     fill_pool(sizes, filled);
-    if spelled.fault != fault::FINE {
+    let why = spelled.fault;
+    let Fault::Fine = why else {
         return Step {
             at: spelled.at,
-            fault: spelled.fault,
+            fault: why,
         };
-    }
+    };
     if number == layout::POOL {
         return Step {
             at: spelled.at,
-            fault: fault::FINE,
+            fault: Fault::Fine,
         };
     }
     let value = Value {
         first: start as u32,
         second: (filled - start) as u32,
         is_double: true,
-        fault: fault::FINE,
+        fault: Fault::Fine,
     };
+    let full = append_value(words, sizes, number, value);
     Step {
         at: spelled.at,
-        fault: append_value(words, sizes, number, value),
+        fault: full,
     }
 }
 
@@ -221,13 +227,14 @@ pub(crate) fn token(
     if number == layout::POOL {
         return Step {
             at: at + 1,
-            fault: fault::NOT_A_STRING,
+            fault: Fault::NotAString,
         };
     }
     let end = token_end(text, at + 1);
     let value = token_value(number, &text[at..end], pool, words, sizes);
+    let why = append_value(words, sizes, number, value);
     Step {
         at: end,
-        fault: append_value(words, sizes, number, value),
+        fault: why,
     }
 }

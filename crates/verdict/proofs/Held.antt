@@ -1,18 +1,14 @@
--- Tables whose words are those held are the tables held, and what the keys of the nodes held say. Assumes nothing.
+-- Tables whose words are those held are the tables held. Assumes nothing.
 use Prim.Native.Nat.{ℕ}
-use mathlib.Core.Path.{_≡_, sym, _∙_}
-use mathlib.Core.Bool.{Bool, true}
+use mathlib.Core.Path.{_≡_}
 use mathlib.Core.List.{List}
-use Rattle.rows.specs.Layout.{nodeWidth}
-use Rattle.rows.specs.Rows.{all, rowsOf}
-use Rattle.rows.specs.Json.{nodeKeysDiffer}
 use Rattle.table_file.specs.Held.{poolOf, tableOf, rootOf}
 use Rattle.tables.specs.Tables.{tables}
-use Rattle.tables.specs.Rules.{ruleAt, obeyed}
 use Rattle.verdict.specs.Held.{held}
 
 pub held-by :
-    (lent words sizes : List ℕ) {pool names refs types members fields arguments sets selections given fragments nodes literals variables answers : List ℕ} {root : ℕ}
+    (lent words sizes : List ℕ)
+    {pool names refs types members fields arguments sets selections given fragments nodes literals variables answers : List ℕ} {root : ℕ}
     → pool ≡ poolOf lent sizes
     → names ≡ tableOf words sizes 1
     → refs ≡ tableOf words sizes 2
@@ -29,18 +25,7 @@ pub held-by :
     → variables ≡ tableOf words sizes 13
     → answers ≡ tableOf words sizes 14
     → root ≡ rootOf words sizes
-    → tables pool names refs types members fields arguments sets selections given fragments nodes literals variables answers root ≡ held lent words sizes
+    → tables pool names refs types members fields arguments sets selections given fragments nodes literals variables answers root
+    ≡ held lent words sizes
 unfolding held
 held-by lent words sizes p e1 e2 e3 e4 e5 e6 e7 e8 e9 e10 e11 e12 e13 e14 r = rw (p, e1, e2, e3, e4, e5, e6, e7, e8, e9, e10, e11, e12, e13, e14, r)
-
--- rule 38 is obeyed where the keys differ in every node
-pub keys-obeyed :
-    (lent words sizes : List ℕ) {pool nodes : List ℕ} {rule : ℕ} {r : Bool}
-    → rule ≡ 38
-    → pool ≡ poolOf lent sizes
-    → nodes ≡ tableOf words sizes 11
-    → r ≡ all (nodeKeysDiffer pool nodes) (rowsOf nodes nodeWidth)
-    → r ≡ true
-    → obeyed (ruleAt rule) (held lent words sizes) ≡ true
-unfolding ruleAt obeyed held
-keys-obeyed lent words sizes k p n e t = rw (k, ← p, ← n) (sym e ∙ t)

@@ -3,13 +3,13 @@ ghost use mathlib.Core.Path.{_≡_};
 ghost use Prim.Native.Nat.{_≤_};
 ghost use lib.ListN.{take, replicate};
 
-pub const FINE: u32 = 0;
-
-pub const CANNOT_BE_OPENED: u32 = 1;
-
-pub const CANNOT_BE_READ: u32 = 2;
-
-pub const TOO_LARGE: u32 = 3;
+// Why a file's text is not read. `Fine` says that it is.
+pub enum Fault {
+    Fine,
+    CannotBeOpened,
+    CannotBeRead,
+    TooLarge,
+}
 
 // The largest file that is read.
 pub const ROOM: usize = 1048576;
@@ -18,7 +18,7 @@ pub type Room = [u8; ROOM];
 
 pub struct Text {
     pub length: usize,
-    pub fault: u32,
+    pub fault: Fault,
 }
 
 pub fn new_text() -> Room
@@ -29,16 +29,16 @@ pub fn new_text() -> Room
 
 // What one more read says, after so many bytes of a file came: the end of the file, more than
 // there is room for, or a failure, as of a folder.
-fn fault_at_end(fd: i32, length: usize, room: usize) -> u32 {
+fn fault_at_end(fd: i32, length: usize, room: usize) -> Fault {
     let mut one = [0u8; 1];
     let got = libc::read(fd, &mut one);
     if got == 0 {
-        return FINE;
+        return Fault::Fine;
     }
     if got > 0 && length == room {
-        return TOO_LARGE;
+        return Fault::TooLarge;
     }
-    CANNOT_BE_READ
+    Fault::CannotBeRead
 }
 
 // Puts the file's bytes at the start of text.
@@ -49,7 +49,7 @@ pub fn read_text(path: &[u8], text: &mut Room) -> Text
     if fd < 0 {
         return Text {
             length: 0,
-            fault: CANNOT_BE_OPENED,
+            fault: Fault::CannotBeOpened,
         };
     }
     let length = io::read_full(fd, text);

@@ -1,4 +1,4 @@
--- `ladle::main` takes one argument after the other; the measure is the arguments that are left. Assumes nothing.
+-- Each turn leaves an argument behind. Assumes nothing.
 use borrow.Author.Needs.{needs}
 use Prim.Native.Nat.{_-_}
 use Rattle.ladle.proofs.main.Statement.{statement}

@@ -1,4 +1,4 @@
--- One case after the other: each begins past the one before. Assumes nothing.
+-- Each case begins past the one before. Assumes nothing.
 use borrow.Author.Needs.{needs}
 use Prim.Native.Nat.{_≤_, _-_}
 use lib.ListN.{length}

@@ -1,6 +1,6 @@
 //! `spoil FOLDER FIRST COUNT`: for each seed the lawful tables and the same with some words changed, as
 //! table files in FOLDER, and in FOLDER/expected what the table check is to answer to each. Hold it
-//! against the port with `ladle check FOLDER/*.tables`.
+//! against the port with `ladle check FOLDER/*.tables`. Tables without whole rows are left out.
 
 use std::fmt::Write as _;
 use std::path::Path;
@@ -26,7 +26,8 @@ fn main() {
             let name = format!("{seed}-{kind}.tables");
             let path = folder.join(&name);
             let text = file::write(&tables);
-            let written = file::read(&text).expect("what is written can be read");
+            // A row that lost a word, or has one too many, is no row of a table file.
+            let Ok(written) = file::read(&text) else { continue };
             let code = u32::from(rules::check(&written).is_err());
             writeln!(expected, "{}: {code}", path.display()).expect("a string takes all");
             write(&path, text.as_bytes());

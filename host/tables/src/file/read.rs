@@ -1,21 +1,21 @@
 //! Reading a table file, line by line.
 
 use super::{keywords, token};
-use crate::layout::{condition, width};
+use crate::layout::{condition, width, RESERVED};
 use crate::rows::Tables;
 
 /// The words of a table that `ladle` holds, and so a file.
 const MOST_WORDS: usize = 20_640;
 
 /// What is wrong, in `ladle`'s words.
-pub(super) type Message = &'static str;
+type Message = String;
 
 /// Why a text is no table file.
 #[derive(Debug, PartialEq, Eq)]
 pub struct Fault {
     /// Counted from 1.
     pub line: usize,
-    pub message: &'static str,
+    pub message: String,
 }
 
 /// Reads a table file. What the words mean is not looked at.
@@ -47,9 +47,11 @@ impl Reader {
             self.open = Some(self.heading(line)?);
             return Ok(());
         }
-        match self.open.ok_or("a row before the first table, as [names]")? {
-            "pool" => self.tokens("pool", line),
-            table => self.row(table, line),
+        let table = self.open.ok_or("a row before the first table, as [names]")?;
+        let (times, tokens) = repetition(line);
+        match table {
+            "pool" => self.pool_line(times, tokens),
+            _ => self.rows(table, times, tokens),
         }
     }
 
@@ -59,23 +61,64 @@ impl Reader {
         let word_tables = self.tables.word_tables();
         let names = word_tables.iter().map(|(name, ..)| *name).chain(["pool", "root"]);
         let mut found = names.filter(|name| format!("[{name}]").as_bytes() == heading);
-        let name = found.next().ok_or("no such table")?;
-        if !token::is_at_end(token::skip_blanks(behind)) {
-            return Err("nothing but a comment may follow a table's name");
+        let name = found.next().ok_or_else(|| quoting("no such table", heading))?;
+        let (next, _) = token::split(behind);
+        if !next.is_empty() {
+            return Err(quoting("nothing but a comment may follow a table's name", next));
         }
         Ok(name)
     }
 
-    /// A row of a table other than the pool.
-    fn row(&mut self, table: &str, line: &[u8]) -> Result<(), Message> {
-        let (times, tokens) = repetition(line)?;
+    /// A line of the pool.
+    fn pool_line(&mut self, times: u32, tokens: &[u8]) -> Result<(), Message> {
+        let start = self.tables.pool.len();
+        self.tokens("pool", tokens)?;
+        let pool = &mut self.tables.pool;
+        let bytes = pool.split_off(start);
+        if start + bytes.len() * times as usize > token::MOST_BYTES {
+            return Err(token::POOL_FULL.into());
+        }
+        pool.extend(bytes.repeat(times as usize));
+        Ok(())
+    }
+
+    /// A line of a table other than the pool.
+    fn rows(&mut self, table: &str, times: u32, tokens: &[u8]) -> Result<(), Message> {
         let start = self.words(table).len();
+        let tokens = self.reserved(table, tokens)?;
         self.tokens(table, tokens)?;
+        self.whole_rows(table, start)?;
         self.repeat(table, start, times)?;
         if self.root.len() > 1 {
-            return Err("[root] has one number");
+            return Err("[root] has one number".into());
         }
         Ok(())
+    }
+
+    /// The reserved names, where a line of names begins with the word for them. Gives what stands
+    /// behind it.
+    fn reserved<'t>(&mut self, table: &str, tokens: &'t [u8]) -> Result<&'t [u8], Message> {
+        let (first, behind) = token::split(tokens);
+        if table != "names" || first != b"reserved" {
+            return Ok(tokens);
+        }
+        for name in RESERVED {
+            self.token(table, format!("\"{name}\"").as_bytes())?;
+        }
+        Ok(behind)
+    }
+
+    /// The words from `start` on are whole rows.
+    fn whole_rows(&mut self, table: &str, start: usize) -> Result<(), Message> {
+        let word_tables = self.tables.word_tables();
+        let width = word_tables.iter().find(|(name, ..)| *name == table);
+        let width = width.map_or(1, |(_, width, _)| *width);
+        let count = self.words(table).len() - start;
+        if count > 0 && count % width == 0 {
+            return Ok(());
+        }
+        let words = if count == 1 { "word" } else { "words" };
+        Err(format!("{count} {words}, a row of {table} has {width}"))
     }
 
     fn tokens(&mut self, table: &str, tokens: &[u8]) -> Result<(), Message> {
@@ -98,17 +141,17 @@ impl Reader {
             }
             return Ok(behind);
         }
-        if table == "pool" {
-            return Err("[pool] holds strings only");
-        }
         let (token, behind) = token::split(text);
-        let words = self.meaning(table, token)?;
+        if table == "pool" {
+            return Err(quoting("[pool] holds strings only", token));
+        }
+        let words = self.meaning(table, token).map_err(|why| quoting(why, token))?;
         self.append(table, &words)?;
         Ok(behind)
     }
 
     /// The words that a token stands for which is no string.
-    fn meaning(&self, table: &str, token: &[u8]) -> Result<Vec<u32>, Message> {
+    fn meaning(&self, table: &str, token: &[u8]) -> Result<Vec<u32>, &'static str> {
         let word = match token {
             [b'0'..=b'9', ..] => return token::number(token),
             [b'\'', name @ ..] => self.name(name)?,
@@ -121,7 +164,7 @@ impl Reader {
     }
 
     /// The first row of `[names]` so far that has these bytes.
-    fn name(&self, name: &[u8]) -> Result<u32, Message> {
+    fn name(&self, name: &[u8]) -> Result<u32, &'static str> {
         let has_name = |row: &[u32]| {
             let (start, length) = (row[0] as usize, row[1] as usize);
             length == name.len() && self.tables.pool.get(start..start + length) == Some(name)
@@ -140,32 +183,37 @@ impl Reader {
     fn append(&mut self, table: &str, more: &[u32]) -> Result<(), Message> {
         let words = self.words(table);
         if words.len() + more.len() > MOST_WORDS {
-            return Err(TOO_MANY);
+            return Err(TOO_MANY.into());
         }
         words.extend(more);
         Ok(())
     }
 
-    /// Makes the row that begins at `start` stand so many times.
+    /// Makes the words from `start` on stand so many times.
     fn repeat(&mut self, table: &str, start: usize, times: u32) -> Result<(), Message> {
         let words = self.words(table);
-        let row = words.split_off(start);
-        if start + row.len() * times as usize > MOST_WORDS {
-            return Err(TOO_MANY);
+        let rows = words.split_off(start);
+        if start + rows.len() * times as usize > MOST_WORDS {
+            return Err(TOO_MANY.into());
         }
-        words.extend(row.repeat(times as usize));
+        words.extend(rows.repeat(times as usize));
         Ok(())
     }
 }
 
-const TOO_MANY: Message = "more rows than ladle holds";
+const TOO_MANY: &str = "more rows than ladle holds";
 
-/// How often a row stands, `N *`, and its tokens.
-fn repetition(line: &[u8]) -> Result<(u32, &[u8]), Message> {
+/// What is wrong with a token, and the token.
+fn quoting(why: &str, token: &[u8]) -> Message {
+    format!("{why}: {}", String::from_utf8_lossy(token))
+}
+
+/// How often the words of a line stand, `N *`, and its tokens.
+fn repetition(line: &[u8]) -> (u32, &[u8]) {
     let (number, behind) = token::split(line);
     let (star, tokens) = token::split(behind);
-    if line[0].is_ascii_digit() && star == b"*" {
-        return Ok((token::word(number)?, tokens));
+    match token::word(number) {
+        Ok(times) if star == b"*" => (times, tokens),
+        _ => (1, line),
     }
-    Ok((1, line))
 }

@@ -1,9 +1,10 @@
 //! What a line is made of: blanks, tokens, numbers and strings.
 
-use super::read::Message;
+/// What is wrong, in `ladle`'s words.
+type Message = &'static str;
 
 /// The pool's bytes that `ladle` holds, and so a file.
-const MOST_BYTES: usize = 69_632;
+pub(super) const MOST_BYTES: usize = 69_632;
 
 fn is_blank(byte: u8) -> bool {
     matches!(byte, b' ' | b'\t' | b'\r')
@@ -62,12 +63,14 @@ pub(super) fn string<'t>(pool: &mut Vec<u8>, text: &'t [u8]) -> Result<&'t [u8],
             [byte, behind @ ..] => (*byte, behind),
         };
         if pool.len() >= MOST_BYTES {
-            return Err("more bytes of strings than ladle holds");
+            return Err(POOL_FULL);
         }
         pool.push(byte);
         rest = behind;
     }
 }
+
+pub(super) const POOL_FULL: Message = "more bytes of strings than ladle holds";
 
 fn closed(behind: &[u8]) -> Result<&[u8], Message> {
     match behind {

@@ -1,4 +1,4 @@
--- `ladle::lists::line_start` stays within the list; the measure is the lines that are left to pass. Assumes nothing.
+-- No line begins past the list's end. Assumes nothing.
 use borrow.Author.Needs.{needs}
 use Prim.Native.Nat.{_≤_, _-_}
 use lib.ListN.{length}

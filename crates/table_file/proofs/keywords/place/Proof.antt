@@ -1,4 +1,4 @@
--- `table_file::keywords::place` passes one word of the list after the other; the measure is the bytes that are left. Assumes nothing.
+-- Each word of the list lies past the one before. Assumes nothing.
 use borrow.Author.Needs.{needs}
 use Prim.Native.Nat.{_≤_, _-_}
 use lib.ListN.{length}

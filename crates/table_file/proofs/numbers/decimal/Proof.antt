@@ -1,4 +1,4 @@
--- `table_file::numbers::decimal` is safe: a value of which the tenfold could pass 64 bits is refused before, and so is a digit that does not fit on top. Assumes nothing.
+-- A value of which the tenfold could pass 64 bits is refused before, and so is a digit that does not fit on top. Assumes nothing.
 use borrow.Author.Needs.{needs}
 use Prim.Native.Nat.{_≤_, _-_}
 use lib.ListN.{length}

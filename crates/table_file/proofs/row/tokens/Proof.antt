@@ -1,4 +1,4 @@
--- `table_file::row::tokens` stays within the text and keeps the sizes within their bounds; each token moves on by a byte at least. Assumes nothing.
+-- Each token is a byte long at least. Assumes nothing.
 use borrow.Author.Needs.{needs}
 use Prim.Native.Nat.{_≤_, _-_}
 use lib.ListN.{length}
@@ -24,6 +24,7 @@ tokens-spec =
     (λ c κs. search needs)
     (λ c. search needs)
     (λ c κs. search needs)
+    (λ c. search needs)
     (λ c. search needs)
     (λ c κs. search needs)
     (λ c. search needs)

@@ -1,4 +1,4 @@
--- `table_file::scan::next_line` ends behind a line end or at the text's end, either of which is past a position within the text. Assumes nothing.
+-- A line's end and the text's end are both past a position within the text. Assumes nothing.
 use borrow.Author.Needs.{needs}
 use Prim.Native.Nat.{_≤_, _-_}
 use lib.ListN.{length}

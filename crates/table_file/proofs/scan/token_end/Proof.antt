@@ -1,4 +1,4 @@
--- `table_file::scan::token_end` stays between where it began and the text's end. Assumes nothing.
+-- Every place that is passed lies within the text. Assumes nothing.
 use borrow.Author.Needs.{needs}
 use Prim.Native.Nat.{_≤_, _-_}
 use lib.ListN.{length}

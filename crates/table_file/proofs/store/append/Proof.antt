@@ -1,4 +1,4 @@
--- `table_file::store::append` keeps the sizes within their bounds: it adds one word where the region has room. Assumes nothing.
+-- One word is added where the region has room for it. Assumes nothing.
 use native.Mathlib.Omega.{arith}
 use Rattle.table_file.proofs.Held.{table-set}
 use borrow.Author.Needs.{needs}

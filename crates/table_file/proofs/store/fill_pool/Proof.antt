@@ -1,4 +1,4 @@
--- `table_file::store::fill_pool` keeps the sizes within their bounds. Assumes nothing.
+-- Sizes may change to what there is room for. Assumes nothing.
 use Rattle.table_file.proofs.Held.{pool-set}
 use borrow.Author.Needs.{needs}
 use Rattle.table_file.proofs.store.fill_pool.Statement.{statement}

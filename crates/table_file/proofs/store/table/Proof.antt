@@ -1,4 +1,4 @@
--- The tests say which part of the words is there. Assumes nothing.
+-- Of a part that ends past the words' end, there is what is left of them. Assumes nothing.
 use native.Mathlib.Nat.{add-sub-cancel-left}
 use Rattle.rows.proofs.Cells.{text-cut, text-none}
 use Rattle.table_file.specs.Held.{tableOf}

@@ -1,4 +1,4 @@
--- `table_file::store::table_size` is the bound that its sizes keep. Assumes nothing.
+-- Sizes are within their bounds. Assumes nothing.
 use borrow.Author.Needs.{needs}
 use Rattle.table_file.proofs.store.table_size.Statement.{statement}
 use Rattle.table_file.proofs.store.table_size.Tie as tie

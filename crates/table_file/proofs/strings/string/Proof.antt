@@ -1,4 +1,4 @@
--- `table_file::strings::string` stays within the text and the pool: each turn passes one letter and fills one byte. Assumes nothing.
+-- Each letter takes a byte of the text at least, and fills one of the pool. Assumes nothing.
 use borrow.Author.Needs.{needs}
 use Prim.Native.Nat.{_≤_, _-_}
 use lib.ListN.{length}
@@ -25,6 +25,7 @@ string-spec =
     (λ c κs. search needs)
     (λ c. search needs)
     (λ c κs. search needs)
+    (λ c. search needs)
     (λ c κs. search needs)
     (λ c. search needs)
     (λ c κs. search needs)

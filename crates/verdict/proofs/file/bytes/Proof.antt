@@ -1,4 +1,4 @@
--- `verdict::file::bytes` is the part of the text that it says: a length beyond the text is at odds with the claim. Assumes nothing.
+-- A length beyond the text is at odds with the claim. Assumes nothing.
 use lib.ListN.{length-take}
 use native.Mathlib.Omega.{arith}
 use borrow.Author.Needs.{needs}

@@ -32,7 +32,9 @@ returns : tie.Need-returns Inv-loop μ-loop
 returns c = (search needs, search needs, record { inside = c .before .before .before .loop .inv .2; ended = λ h. c .if1 .taken })
 
 loop-again : tie.Need-loop-again Inv-loop μ-loop
-loop-again c = (search needs, search needs, further (c .before .before .before .before .args .text .now) _ _ (c .before .before .before .loop .inv .2) (c .if1 .left))
+loop-again c =
+    let looked = c .before .before .before in
+    (search needs, search needs, further (looked .before .args .text .now) _ _ (looked .loop .inv .2) (c .if1 .left))
 
 returns-2 : tie.Need-returns-2 Inv-loop μ-loop
 returns-2 c = (search needs, search needs, record { inside = c .before .loop .inv .2; ended = λ h. absurd (omega arith) })
