@@ -1,8 +1,8 @@
 -- That the rules table by table are all the rules. Assumes nothing.
-use mathlib.Core.Path.{_≡_, refl, sym, _∙_}
+use mathlib.Core.Path.{_≡_, sym, _∙_}
 use mathlib.Core.Bool.{Bool, true, false, not, _&&_}
-use mathlib.Core.List.{List, [], _∷_}
-use Prim.Native.Nat.{ℕ, zero, suc, _≤_}
+use mathlib.Core.List.{List, _∷_}
+use Prim.Native.Nat.{ℕ, _≤_}
 use native.Mathlib.Omega.{arith}
 use lib.ListN.{getD}
 use Rattle.rows.specs.Layout.{nameWidth, selectionWidth}
@@ -26,7 +26,7 @@ use Rattle.tables.specs.declared.rulebook.DocumentRule.the-variants as d
 use Rattle.tables.specs.declared.rulebook.ValueRule.the-variants as value
 use Rattle.rows.proofs.Every.{and-false, and-left, and-right, all-at, all-each}
 use Rattle.rules.proofs.Words.{same-truth}
-use Rattle.tables.proofs.Chained.{turned-true, turned-false}
+use Rattle.tables.proofs.Chained.{turned-true, turned-false, conj-at}
 use Rattle.tables.proofs.Facts.{few}
 use Rattle.tables.proofs.Lawful.{obeyed-at, all-obeyed}
 
@@ -44,15 +44,7 @@ module _ (p q : ℕ → Bool) (n : ℕ) where
   all-right : all (λ i. p i && q i) n ≡ true → all q n ≡ true
   all-right e = all-each q n (λ i l. and-right (p i) (q i) (all-at (λ j. p j && q j) i n l e))
 
--- What holds of a whole list holds of each.
-conj-at : (bs : List Bool) (k : ℕ) → conj bs ≡ true → getD bs k true ≡ true
-unfolding conj
-conj-at [] k e = refl
-conj-at (b ∷ []) zero e = e
-conj-at (b ∷ []) (suc k) e = refl
-conj-at (b ∷ c ∷ bs) zero e = and-left b (conj (c ∷ bs)) e
-conj-at (b ∷ c ∷ bs) (suc k) e = conj-at (c ∷ bs) k (and-right b (conj (c ∷ bs)) e)
-
+-- A rule that is said once.
 once-obeyed : (b : Bool) → b ≡ true → all (λ row. b) 1 ≡ true
 once-obeyed b e = all-each (λ row. b) 1 (λ i l. e)
 

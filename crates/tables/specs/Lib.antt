@@ -3,5 +3,6 @@ pub mod Rules
 pub mod Defaults
 pub mod Lawful
 pub mod Broken
--- What the check goes by. No public contract cites it.
+-- What the code goes by. No public contract cites it.
+pub mod Chapters
 pub mod ByTable

@@ -36,6 +36,7 @@ use rows::document::set_at;
 use rows::layout::Range;
 use rows::layout::row_count;
 use rows::layout::word;
+use rows::limits::MOST_SELECTIONS;
 use rules::document::child_is_larger;
 use rules::document::fragment_row;
 use rules::document::selection_is_lawful;
@@ -168,6 +169,7 @@ fn each_selection_holds(
 fn selections_hold(names: u32, type_refs: u32, sets: u32, selections: &[u32], given: &[u32]) -> bool
     ensures { λ r. ⌜ r ≡ all (selectionHolds names «type_refs» sets (now (selections .entry)) (now (given .entry))) (rowsOf (now (selections .entry)) selectionWidth) ⌝ }
 {
+    // There is no limit to these. More than get a note are gone through.
     let mut since = [0u16; 4097];
     let known = note_since(given, GIVEN_WIDTH, GIVEN_NAME, &mut since);
     each_selection_holds(names, type_refs, sets, selections, given, &since, known)
@@ -245,7 +247,7 @@ fn each_set_holds(sets: &[u32], selections: &[u32]) -> bool
     ensures { λ r. ⌜ r ≡ all (setHolds (now (sets .entry)) (now (selections .entry))) (rowsOf (now (sets .entry)) setWidth) ⌝ }
 {
     let count = row_count(selections, SELECTION_WIDTH);
-    let mut skips = [0u16; 2049];
+    let mut skips = [0u16; MOST_SELECTIONS + 1];
     let mut set = row_count(sets, SET_WIDTH);
     while 0 < set {
         set -= 1;

@@ -1,6 +1,7 @@
 // The rules of document 01 on the tables lent, by name, and whether a rule holds at a row.
 ghost use mathlib.Core.Path.{_≡_};
 ghost use Rattle.tables.specs.Tables.{tables};
+ghost use Rattle.tables.specs.Chapters.{schemaTables, documentTables, valueTables};
 ghost use Rattle.tables.specs.Rules.{sizeHolds, schemaSays, documentSays, valueSays, sizeRule, schemaRule, documentRule, valueRule, ruleAt, rowsFor, holdsAt};
 use rows::answers::ANSWER_WIDTH;
 use rows::document::FRAGMENT_WIDTH;
@@ -185,17 +186,10 @@ fn schema_rows(
     members: &[u32],
     fields: &[u32],
     arguments: &[u32],
-    sets: &[u32],
-    selections: &[u32],
-    given: &[u32],
-    fragments: &[u32],
-    nodes: &[u32],
     literals: &[u32],
-    variables: &[u32],
-    answers: &[u32],
     root: u32,
 ) -> u32
-    ensures { λ r. ⌜ r ≡ schemaSays rule (tables (now (pool .entry)) (now (names .entry)) (now («type_refs» .entry)) (now (types .entry)) (now (members .entry)) (now (fields .entry)) (now (arguments .entry)) (now (sets .entry)) (now (selections .entry)) (now (given .entry)) (now (fragments .entry)) (now (nodes .entry)) (now (literals .entry)) (now (variables .entry)) (now (answers .entry)) root) .rows ⌝ }
+    ensures { λ r. ⌜ r ≡ schemaSays rule (schemaTables (now (pool .entry)) (now (names .entry)) (now («type_refs» .entry)) (now (types .entry)) (now (members .entry)) (now (fields .entry)) (now (arguments .entry)) (now (literals .entry)) root) .rows ⌝ }
 {
     match rule {
         SchemaRule::NameSpelled => row_count(names, NAME_WIDTH),
@@ -223,18 +217,11 @@ fn schema_holds(
     members: &[u32],
     fields: &[u32],
     arguments: &[u32],
-    sets: &[u32],
-    selections: &[u32],
-    given: &[u32],
-    fragments: &[u32],
-    nodes: &[u32],
     literals: &[u32],
-    variables: &[u32],
-    answers: &[u32],
     root: u32,
     row: u32,
 ) -> bool
-    ensures { λ r. ⌜ r ≡ schemaSays rule (tables (now (pool .entry)) (now (names .entry)) (now («type_refs» .entry)) (now (types .entry)) (now (members .entry)) (now (fields .entry)) (now (arguments .entry)) (now (sets .entry)) (now (selections .entry)) (now (given .entry)) (now (fragments .entry)) (now (nodes .entry)) (now (literals .entry)) (now (variables .entry)) (now (answers .entry)) root) .holds row ⌝ }
+    ensures { λ r. ⌜ r ≡ schemaSays rule (schemaTables (now (pool .entry)) (now (names .entry)) (now («type_refs» .entry)) (now (types .entry)) (now (members .entry)) (now (fields .entry)) (now (arguments .entry)) (now (literals .entry)) root) .holds row ⌝ }
 {
     match rule {
         SchemaRule::NameSpelled => name_is_spelled(pool, names, row),
@@ -275,24 +262,15 @@ fn schema_holds(
 // How many rows the rule speaks of.
 fn document_rows(
     rule: DocumentRule,
-    pool: &[u8],
     names: &[u32],
     type_refs: &[u32],
-    types: &[u32],
-    members: &[u32],
-    fields: &[u32],
-    arguments: &[u32],
     sets: &[u32],
     selections: &[u32],
     given: &[u32],
     fragments: &[u32],
-    nodes: &[u32],
     literals: &[u32],
-    variables: &[u32],
-    answers: &[u32],
-    root: u32,
 ) -> u32
-    ensures { λ r. ⌜ r ≡ documentSays rule (tables (now (pool .entry)) (now (names .entry)) (now («type_refs» .entry)) (now (types .entry)) (now (members .entry)) (now (fields .entry)) (now (arguments .entry)) (now (sets .entry)) (now (selections .entry)) (now (given .entry)) (now (fragments .entry)) (now (nodes .entry)) (now (literals .entry)) (now (variables .entry)) (now (answers .entry)) root) .rows ⌝ }
+    ensures { λ r. ⌜ r ≡ documentSays rule (documentTables (now (names .entry)) (now («type_refs» .entry)) (now (sets .entry)) (now (selections .entry)) (now (given .entry)) (now (fragments .entry)) (now (literals .entry))) .rows ⌝ }
 {
     match rule {
         DocumentRule::SetRow => row_count(sets, SET_WIDTH),
@@ -309,25 +287,16 @@ fn document_rows(
 
 fn document_holds(
     rule: DocumentRule,
-    pool: &[u8],
     names: &[u32],
     type_refs: &[u32],
-    types: &[u32],
-    members: &[u32],
-    fields: &[u32],
-    arguments: &[u32],
     sets: &[u32],
     selections: &[u32],
     given: &[u32],
     fragments: &[u32],
-    nodes: &[u32],
     literals: &[u32],
-    variables: &[u32],
-    answers: &[u32],
-    root: u32,
     row: u32,
 ) -> bool
-    ensures { λ r. ⌜ r ≡ documentSays rule (tables (now (pool .entry)) (now (names .entry)) (now («type_refs» .entry)) (now (types .entry)) (now (members .entry)) (now (fields .entry)) (now (arguments .entry)) (now (sets .entry)) (now (selections .entry)) (now (given .entry)) (now (fragments .entry)) (now (nodes .entry)) (now (literals .entry)) (now (variables .entry)) (now (answers .entry)) root) .holds row ⌝ }
+    ensures { λ r. ⌜ r ≡ documentSays rule (documentTables (now (names .entry)) (now («type_refs» .entry)) (now (sets .entry)) (now (selections .entry)) (now (given .entry)) (now (fragments .entry)) (now (literals .entry))) .holds row ⌝ }
 {
     match rule {
         DocumentRule::SetRow => set_row(row_count(selections, SELECTION_WIDTH), sets, row),
@@ -364,22 +333,12 @@ fn value_rows(
     rule: ValueRule,
     pool: &[u8],
     names: &[u32],
-    type_refs: &[u32],
-    types: &[u32],
-    members: &[u32],
-    fields: &[u32],
-    arguments: &[u32],
-    sets: &[u32],
-    selections: &[u32],
-    given: &[u32],
-    fragments: &[u32],
     nodes: &[u32],
     literals: &[u32],
     variables: &[u32],
     answers: &[u32],
-    root: u32,
 ) -> u32
-    ensures { λ r. ⌜ r ≡ valueSays rule (tables (now (pool .entry)) (now (names .entry)) (now («type_refs» .entry)) (now (types .entry)) (now (members .entry)) (now (fields .entry)) (now (arguments .entry)) (now (sets .entry)) (now (selections .entry)) (now (given .entry)) (now (fragments .entry)) (now (nodes .entry)) (now (literals .entry)) (now (variables .entry)) (now (answers .entry)) root) .rows ⌝ }
+    ensures { λ r. ⌜ r ≡ valueSays rule (valueTables (now (pool .entry)) (now (names .entry)) (now (nodes .entry)) (now (literals .entry)) (now (variables .entry)) (now (answers .entry))) .rows ⌝ }
 {
     match rule {
         ValueRule::NodeRow => row_count(nodes, NODE_WIDTH),
@@ -399,23 +358,13 @@ fn value_holds(
     rule: ValueRule,
     pool: &[u8],
     names: &[u32],
-    type_refs: &[u32],
-    types: &[u32],
-    members: &[u32],
-    fields: &[u32],
-    arguments: &[u32],
-    sets: &[u32],
-    selections: &[u32],
-    given: &[u32],
-    fragments: &[u32],
     nodes: &[u32],
     literals: &[u32],
     variables: &[u32],
     answers: &[u32],
-    root: u32,
     row: u32,
 ) -> bool
-    ensures { λ r. ⌜ r ≡ valueSays rule (tables (now (pool .entry)) (now (names .entry)) (now («type_refs» .entry)) (now (types .entry)) (now (members .entry)) (now (fields .entry)) (now (arguments .entry)) (now (sets .entry)) (now (selections .entry)) (now (given .entry)) (now (fragments .entry)) (now (nodes .entry)) (now (literals .entry)) (now (variables .entry)) (now (answers .entry)) root) .holds row ⌝ }
+    ensures { λ r. ⌜ r ≡ valueSays rule (valueTables (now (pool .entry)) (now (names .entry)) (now (nodes .entry)) (now (literals .entry)) (now (variables .entry)) (now (answers .entry))) .holds row ⌝ }
 {
     match rule {
         ValueRule::NodeRow => node_row(pool, false, row_count(nodes, NODE_WIDTH), nodes, row),
@@ -576,54 +525,20 @@ pub fn rule_rows(
             members,
             fields,
             arguments,
-            sets,
-            selections,
-            given,
-            fragments,
-            nodes,
             literals,
-            variables,
-            answers,
             root,
         ),
         Rule::Document(r) => document_rows(
             r,
-            pool,
             names,
             type_refs,
-            types,
-            members,
-            fields,
-            arguments,
             sets,
             selections,
             given,
             fragments,
-            nodes,
             literals,
-            variables,
-            answers,
-            root,
         ),
-        Rule::Value(r) => value_rows(
-            r,
-            pool,
-            names,
-            type_refs,
-            types,
-            members,
-            fields,
-            arguments,
-            sets,
-            selections,
-            given,
-            fragments,
-            nodes,
-            literals,
-            variables,
-            answers,
-            root,
-        ),
+        Rule::Value(r) => value_rows(r, pool, names, nodes, literals, variables, answers),
     }
 }
 
@@ -679,56 +594,21 @@ pub fn rule_holds_at(
             members,
             fields,
             arguments,
-            sets,
-            selections,
-            given,
-            fragments,
-            nodes,
             literals,
-            variables,
-            answers,
             root,
             row,
         ),
         Rule::Document(r) => document_holds(
             r,
-            pool,
             names,
             type_refs,
-            types,
-            members,
-            fields,
-            arguments,
             sets,
             selections,
             given,
             fragments,
-            nodes,
             literals,
-            variables,
-            answers,
-            root,
             row,
         ),
-        Rule::Value(r) => value_holds(
-            r,
-            pool,
-            names,
-            type_refs,
-            types,
-            members,
-            fields,
-            arguments,
-            sets,
-            selections,
-            given,
-            fragments,
-            nodes,
-            literals,
-            variables,
-            answers,
-            root,
-            row,
-        ),
+        Rule::Value(r) => value_holds(r, pool, names, nodes, literals, variables, answers, row),
     }
 }

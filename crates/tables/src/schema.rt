@@ -29,6 +29,8 @@ use rows::columns::TYPE_REF_OF;
 use rows::layout::Range;
 use rows::layout::row_count;
 use rows::layout::word;
+use rows::limits::MOST_ARGUMENTS;
+use rows::limits::MOST_FIELDS;
 use rows::names::NAME_WIDTH;
 use rows::schema::ARGUMENT_WIDTH;
 use rows::schema::FIELD_WIDTH;
@@ -217,7 +219,7 @@ fn each_field_holds(
 fn fields_hold(names: u32, type_refs: u32, literals: u32, fields: &[u32], arguments: &[u32]) -> bool
     ensures { λ r. ⌜ r ≡ all (fieldHolds names «type_refs» literals (now (fields .entry)) (now (arguments .entry))) (rowsOf (now (fields .entry)) fieldWidth) ⌝ }
 {
-    let mut since = [0u16; 1025];
+    let mut since = [0u16; MOST_ARGUMENTS + 1];
     let known = note_since(arguments, ARGUMENT_WIDTH, ARGUMENT_NAME, &mut since);
     each_field_holds(names, type_refs, literals, fields, arguments, &since, known)
 }
@@ -281,7 +283,7 @@ fn each_type_holds(
 fn types_hold(names: u32, members: u32, types: &[u32], fields: &[u32]) -> bool
     ensures { λ r. ⌜ r ≡ all (typeHolds names members (now (types .entry)) (now (fields .entry))) (rowsOf (now (types .entry)) typeWidth) ⌝ }
 {
-    let mut since = [0u16; 1025];
+    let mut since = [0u16; MOST_FIELDS + 1];
     let known = note_since(fields, FIELD_WIDTH, FIELD_NAME, &mut since);
     each_type_holds(names, members, types, fields, &since, known)
 }

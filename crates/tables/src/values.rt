@@ -38,6 +38,8 @@ use rows::json::VARIABLE_WIDTH;
 use rows::layout::Range;
 use rows::layout::row_count;
 use rows::layout::word;
+use rows::limits::MOST_ANSWERS;
+use rows::limits::MOST_LITERALS;
 use rows::strings::Text;
 use rules::answers::answer_is_lawful;
 use rules::answers::root_answer_is_object;
@@ -154,7 +156,7 @@ fn literals_hold(pool: &[u8], whole: bool, names: u32, literals: &[u32]) -> bool
     requires { ⌜ (whole ≡ true → isUtf8 (now pool) ≡ true) ⌝ }
     ensures { λ r. ⌜ r ≡ all (literalHolds (now (pool .entry)) names (rowsOf (now (literals .entry)) literalWidth) (now (literals .entry))) (rowsOf (now (literals .entry)) literalWidth) ⌝ }
 {
-    let mut since = [0u16; 1025];
+    let mut since = [0u16; MOST_LITERALS + 1];
     let known = note_since(literals, LITERAL_WIDTH, LITERAL_KEY, &mut since);
     each_literal_holds(pool, whole, names, literals, &since, known)
 }
@@ -256,7 +258,7 @@ fn each_answer_differs(answers: &[u32], since: &[u16], known: usize) -> bool
 fn answer_names_differ(answers: &[u32]) -> bool
     ensures { λ r. ⌜ r ≡ all (answerNamesDiffer (now (answers .entry))) (rowsOf (now (answers .entry)) answerWidth) ⌝ }
 {
-    let mut since = [0u16; 4097];
+    let mut since = [0u16; MOST_ANSWERS + 1];
     let known = note_since(answers, ANSWER_WIDTH, ANSWER_NAME, &mut since);
     each_answer_differs(answers, &since, known)
 }

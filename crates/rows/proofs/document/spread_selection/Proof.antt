@@ -1,4 +1,4 @@
--- Each word is what `cell` ensures. Assumes nothing.
+-- Assumes nothing.
 use Rattle.rows.specs.Document.{spreadSelection}
 use borrow.Author.Needs.{needs}
 use Rattle.rows.proofs.document.spread_selection.Statement.{statement}

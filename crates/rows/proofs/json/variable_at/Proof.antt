@@ -1,4 +1,4 @@
--- Each word is what `cell` ensures. Assumes nothing.
+-- Assumes nothing.
 use Rattle.rows.specs.Json.{variableAt}
 use borrow.Author.Needs.{needs}
 use Rattle.rows.proofs.json.variable_at.Statement.{statement}

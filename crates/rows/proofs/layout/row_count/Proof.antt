@@ -1,4 +1,4 @@
--- The two ways are the two cases of `min`. Assumes nothing.
+-- Assumes nothing.
 use Rattle.rows.specs.Rows.{rowsOf}
 use borrow.Author.Needs.{needs}
 use native.Mathlib.Omega.{arith}

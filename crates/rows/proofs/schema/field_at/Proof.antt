@@ -1,4 +1,4 @@
--- Each word is what `cell` ensures. Assumes nothing.
+-- Assumes nothing.
 use Rattle.rows.specs.Schema.{fieldAt}
 use borrow.Author.Needs.{needs}
 use Rattle.rows.proofs.schema.field_at.Statement.{statement}

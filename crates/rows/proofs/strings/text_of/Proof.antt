@@ -1,4 +1,4 @@
--- The tests say which part of the pool is there. Assumes nothing.
+-- Assumes nothing.
 use native.Mathlib.Nat.{add-sub-cancel-left}
 use Rattle.rows.proofs.Cells.{text-cut, text-none}
 use borrow.Author.Needs.{needs}

@@ -1,4 +1,4 @@
--- Each part is what its callee ensures. Assumes nothing.
+-- Assumes nothing.
 use borrow.Author.Needs.{needs}
 use Rattle.rules.proofs.document.child_sets_are_larger.Statement.{statement}
 use Rattle.rules.proofs.document.child_sets_are_larger.Tie as tie

@@ -1,4 +1,4 @@
--- By the kinds: each arm is told which constructor it has, at which the definition computes. Assumes nothing.
+-- Assumes nothing.
 use borrow.Author.Needs.{needs}
 use Rattle.rules.proofs.document.is_larger_than.Statement.{statement}
 use Rattle.rules.proofs.document.is_larger_than.Tie as tie

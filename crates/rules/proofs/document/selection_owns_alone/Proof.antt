@@ -1,4 +1,4 @@
--- Each part is what its callee ensures. Assumes nothing.
+-- Assumes nothing.
 use borrow.Author.Needs.{needs}
 use Rattle.rules.proofs.document.selection_owns_alone.Statement.{statement}
 use Rattle.rules.proofs.document.selection_owns_alone.Tie as tie

@@ -5,28 +5,10 @@ use borrow.Author.Needs.{needs}
 use Rattle.tables.proofs.check.rows_are_lawful.Statement.{statement}
 use Rattle.tables.proofs.check.rows_are_lawful.Tie as tie
 
-schema-is-sized-requires : tie.Need-schema-is-sized-requires
-schema-is-sized-requires c κs = search needs
-
-document-is-sized-requires : tie.Need-document-is-sized-requires
-document-is-sized-requires c κs = search needs
-
-values-are-sized-requires : tie.Need-values-are-sized-requires
-values-are-sized-requires c κs = search needs
-
 returns : tie.Need-returns
 returns c =
     stop-sizes _ (c .before .before .before .schema-is-sized .result) (c .before .before .document-is-sized .result) (c .before .values-are-sized .result)
     (c .before .before .before .schema-is-sized .ensures) (c .before .before .document-is-sized .ensures) (c .before .values-are-sized .ensures) (c .if1 .taken)
-
-row-count-requires : tie.Need-row-count-requires
-row-count-requires c κs = search needs
-
-row-count-requires-2 : tie.Need-row-count-requires-2
-row-count-requires-2 c κs = search needs
-
-row-count-requires-3 : tie.Need-row-count-requires-3
-row-count-requires-3 c κs = search needs
 
 schema-is-lawful-requires : tie.Need-schema-is-lawful-requires
 schema-is-lawful-requires c κs =
@@ -48,9 +30,6 @@ returns-3 c =
     stop-document _ (c .before .document-is-lawful .result)
     (rw (c .before .before .before .before .before .before .row-count .ensures, c .before .before .before .before .before .row-count2 .ensures, c .before .before .before .before .row-count3 .ensures) at (c .before .document-is-lawful .ensures)) (c .if3 .taken)
 
-values-are-lawful-requires : tie.Need-values-are-lawful-requires
-values-are-lawful-requires c κs = search needs
-
 returns-4 : tie.Need-returns-4
 returns-4 c =
     go-values _ (c .before .before .before .before .before .before .before .before .before .before .before .schema-is-sized .result) (c .before .before .before .before .before .before .before .before .before .before .document-is-sized .result) (c .before .before .before .before .before .before .before .before .before .values-are-sized .result)
@@ -64,16 +43,16 @@ pub rows-are-lawful-spec : {M : Type 1} → statement M
 rows-are-lawful-spec =
     tie.close
     (tie.spec
-    schema-is-sized-requires
-    document-is-sized-requires
-    values-are-sized-requires
+    (λ c κs. search needs)
+    (λ c κs. search needs)
+    (λ c κs. search needs)
     returns
-    row-count-requires
-    row-count-requires-2
-    row-count-requires-3
+    (λ c κs. search needs)
+    (λ c κs. search needs)
+    (λ c κs. search needs)
     schema-is-lawful-requires
     returns-2
     document-is-lawful-requires
     returns-3
-    values-are-lawful-requires
+    (λ c κs. search needs)
     returns-4)

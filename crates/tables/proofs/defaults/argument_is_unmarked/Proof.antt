@@ -1,4 +1,4 @@
--- Each part is what its callee ensures. Assumes nothing.
+-- Assumes nothing.
 use borrow.Author.Needs.{needs}
 use Rattle.tables.proofs.defaults.argument_is_unmarked.Statement.{statement}
 use Rattle.tables.proofs.defaults.argument_is_unmarked.Tie as tie

@@ -1,4 +1,4 @@
--- By the kinds: each arm is told which constructor it has, at which the definition computes. Assumes nothing.
+-- Assumes nothing.
 use borrow.Author.Needs.{needs}
 use Rattle.tables.proofs.defaults.default_is_unmarked.Statement.{statement}
 use Rattle.tables.proofs.defaults.default_is_unmarked.Tie as tie

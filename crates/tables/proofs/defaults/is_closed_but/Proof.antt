@@ -1,4 +1,4 @@
--- By the kinds: each arm is told which constructor it has, at which the definition computes. Assumes nothing.
+-- Assumes nothing.
 use borrow.Author.Needs.{needs}
 use Rattle.tables.proofs.defaults.is_closed_but.Statement.{statement}
 use Rattle.tables.proofs.defaults.is_closed_but.Tie as tie

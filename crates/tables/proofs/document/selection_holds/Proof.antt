@@ -6,36 +6,6 @@ use borrow.Author.Needs.{needs}
 use Rattle.tables.proofs.document.selection_holds.Statement.{statement}
 use Rattle.tables.proofs.document.selection_holds.Tie as tie
 
-word-requires : tie.Need-word-requires
-word-requires c κs = search needs
-
-word-requires-2 : tie.Need-word-requires-2
-word-requires-2 c κs = search needs
-
-word-requires-3 : tie.Need-word-requires-3
-word-requires-3 c κs = search needs
-
-word-requires-4 : tie.Need-word-requires-4
-word-requires-4 c κs = search needs
-
-word-requires-5 : tie.Need-word-requires-5
-word-requires-5 c κs = search needs
-
-word-requires-6 : tie.Need-word-requires-6
-word-requires-6 c κs = search needs
-
-word-requires-7 : tie.Need-word-requires-7
-word-requires-7 c κs = search needs
-
-word-requires-8 : tie.Need-word-requires-8
-word-requires-8 c κs = search needs
-
-word-requires-9 : tie.Need-word-requires-9
-word-requires-9 c κs = search needs
-
-selection-is-lawful-requires : tie.Need-selection-is-lawful-requires
-selection-is-lawful-requires c κs = search needs
-
 returns : tie.Need-returns
 unfolding selectionHolds selectionAt selectionOf fieldSelection spreadSelection inlineSelection
 returns c =
@@ -54,16 +24,16 @@ pub selection-holds-spec : {M : Type 1} → statement M
 selection-holds-spec =
     tie.close
     (tie.spec
-    word-requires
-    word-requires-2
-    word-requires-3
-    word-requires-4
-    word-requires-5
-    word-requires-6
-    word-requires-7
-    word-requires-8
-    word-requires-9
-    selection-is-lawful-requires
+    (λ c κs. search needs)
+    (λ c κs. search needs)
+    (λ c κs. search needs)
+    (λ c κs. search needs)
+    (λ c κs. search needs)
+    (λ c κs. search needs)
+    (λ c κs. search needs)
+    (λ c κs. search needs)
+    (λ c κs. search needs)
+    (λ c κs. search needs)
     returns
     given-differ-since-requires
     returns-2)

@@ -11,17 +11,11 @@ use borrow.Author.Needs.{needs}
 use Rattle.tables.proofs.document.set_holds.Statement.{statement}
 use Rattle.tables.proofs.document.set_holds.Tie as tie
 
-set-row-requires : tie.Need-set-row-requires
-set-row-requires c κs = search needs
-
 returns : tie.Need-returns
 unfolding setHolds
 returns c =
     let start = c .before .before .before .before .before in
     (rw (← (start .pre .1 .0), ← (c .before .set-row .ensures), turned-false (c .before .set-row .result) (c .if1 .taken)), start .pre .0)
-
-set-at-requires : tie.Need-set-at-requires
-set-at-requires c κs = search needs
 
 children-are-larger-requires : tie.Need-children-are-larger-requires
 children-are-larger-requires c κs =
@@ -32,9 +26,6 @@ children-are-larger-requires c κs =
     leb-true (rows .first + rows .count) (a .count)
     (verified (c .before .before .before .set-row .result) (setRow (a .count) (a .sets .now) (a .set)) (c .before .before .before .set-row .ensures) (c .before .before .if1 .left)) in
     (start .pre .0, rw (c .set-at .ensures) (omega (arith, within, start .pre .1 .1)))
-
-same-length : tie.Need-same-length
-same-length c = search needs
 
 returns-2 : tie.Need-returns-2
 unfolding setHolds
@@ -49,9 +40,9 @@ pub set-holds-spec : {M : Type 1} → statement M
 set-holds-spec =
     tie.close
     (tie.spec
-    set-row-requires
+    (λ c κs. search needs)
     returns
-    set-at-requires
+    (λ c κs. search needs)
     children-are-larger-requires
-    same-length
+    (λ c. search needs)
     returns-2)

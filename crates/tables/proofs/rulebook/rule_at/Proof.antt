@@ -1,4 +1,4 @@
--- The number says in which chapter the rule stands. Assumes nothing.
+-- Assumes nothing.
 use Rattle.tables.proofs.Numbered.{rule-size, rule-schema, rule-document, rule-value}
 use borrow.Author.Needs.{needs}
 use native.Mathlib.Omega.{arith}

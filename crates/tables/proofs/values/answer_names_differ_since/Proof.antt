@@ -8,23 +8,11 @@ use borrow.Author.Needs.{needs}
 use Rattle.tables.proofs.values.answer_names_differ_since.Statement.{statement}
 use Rattle.tables.proofs.values.answer_names_differ_since.Tie as tie
 
-word-requires : tie.Need-word-requires
-word-requires c κs = search needs
-
 returns : tie.Need-returns
 unfolding answerAt
 returns c =
     let n : cell (c .before .before .before .before .args .answers .now) answerWidth (c .before .before .before .before .args .row) 0 ≡ 4 → ⊥ = λ e. c .if1 .taken (c .before .word .ensures ∙ e) in
     no-names _ _ _ _ _ n
-
-word-requires-2 : tie.Need-word-requires-2
-word-requires-2 c κs = search needs
-
-word-requires-3 : tie.Need-word-requires-3
-word-requires-3 c κs = search needs
-
-is-distinct-since-requires : tie.Need-is-distinct-since-requires
-is-distinct-since-requires c κs = search needs
 
 returns-2 : tie.Need-returns-2
 unfolding answerAt
@@ -35,9 +23,9 @@ pub answer-names-differ-since-spec : {M : Type 1} → statement M
 answer-names-differ-since-spec =
     tie.close
     (tie.spec
-    word-requires
+    (λ c κs. search needs)
     returns
-    word-requires-2
-    word-requires-3
-    is-distinct-since-requires
+    (λ c κs. search needs)
+    (λ c κs. search needs)
+    (λ c κs. search needs)
     returns-2)

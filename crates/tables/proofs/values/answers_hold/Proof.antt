@@ -7,9 +7,6 @@ use borrow.Author.Needs.{needs}
 use Rattle.tables.proofs.values.answers_hold.Statement.{statement}
 use Rattle.tables.proofs.values.answers_hold.Tie as tie
 
-look-at-answers-requires : tie.Need-look-at-answers-requires
-look-at-answers-requires c κs = search needs
-
 returns : tie.Need-returns
 returns c = rw (← (c .before .before .look-at-answers .ensures .lawful), turned-false (c .before .before .look-at-answers .result .lawful) (c .if1 .taken))
 
@@ -19,13 +16,10 @@ returns-2 c =
     rw (← (seen .ensures .lawful), turned-true (seen .result .lawful) (c .before .if1 .left))
     (sym (all-each _ _ (λ row l. plain-differs _ row (all-at _ row _ l (seen .ensures .plain (c .if2 .taken))))))
 
-answer-names-differ-requires : tie.Need-answer-names-differ-requires
-answer-names-differ-requires c κs = search needs
-
 returns-3 : tie.Need-returns-3
 returns-3 c = rw (← (c .before .before .before .before .look-at-answers .ensures .lawful), turned-true (c .before .before .before .before .look-at-answers .result .lawful) (c .before .before .if1 .left)) (c .answer-names-differ .ensures)
 
 pub answers-hold-spec : {M : Type 1} → statement M
 answers-hold-spec =
     tie.close
-    (tie.spec look-at-answers-requires returns returns-2 answer-names-differ-requires returns-3)
+    (tie.spec (λ c κs. search needs) returns returns-2 (λ c κs. search needs) returns-3)

@@ -8,28 +8,10 @@ use borrow.Author.Needs.{needs}
 use Rattle.tables.proofs.values.literal_holds.Statement.{statement}
 use Rattle.tables.proofs.values.literal_holds.Tie as tie
 
-word-requires : tie.Need-word-requires
-word-requires c κs = search needs
-
-word-requires-2 : tie.Need-word-requires-2
-word-requires-2 c κs = search needs
-
-word-requires-3 : tie.Need-word-requires-3
-word-requires-3 c κs = search needs
-
-word-requires-4 : tie.Need-word-requires-4
-word-requires-4 c κs = search needs
-
-literal-is-lawful-requires : tie.Need-literal-is-lawful-requires
-literal-is-lawful-requires c κs = search needs
-
 returns : tie.Need-returns
 unfolding literalHolds literalAt
 returns c =
     rw (← (c .before .before .before .before .before .word .ensures), ← (c .before .before .before .before .word2 .ensures), ← (c .before .before .before .word3 .ensures), ← (c .before .before .word4 .ensures), ← (c .before .literal-is-lawful .ensures), turned-false (ltb (c .before .before .word4 .result) (c .before .before .before .before .before .before .before .before .before .args .names) && c .before .literal-is-lawful .result) (c .if1 .taken))
-
-literal-keys-differ-since-requires : tie.Need-literal-keys-differ-since-requires
-literal-keys-differ-since-requires c κs = search needs
 
 returns-2 : tie.Need-returns-2
 unfolding literalHolds literalAt
@@ -41,11 +23,11 @@ pub literal-holds-spec : {M : Type 1} → statement M
 literal-holds-spec =
     tie.close
     (tie.spec
-    word-requires
-    word-requires-2
-    word-requires-3
-    word-requires-4
-    literal-is-lawful-requires
+    (λ c κs. search needs)
+    (λ c κs. search needs)
+    (λ c κs. search needs)
+    (λ c κs. search needs)
+    (λ c κs. search needs)
     returns
-    literal-keys-differ-since-requires
+    (λ c κs. search needs)
     returns-2)
