@@ -172,9 +172,9 @@ module _ (T : Tables) where
     each-obeyed (Document document.ChildSetsLarger) =
         all-right (setRow (selectionCount T) (T .sets)) (childSetsLarger (T .sets) (T .selections)) (setCount T) (document-at 5)
     each-obeyed (Value value.NodeRow) =
-        all-left (nodeRow (T .pool) (nodeCount T) (T .nodes)) (nodeKeyRow (T .pool) (T .nodes)) (nodeCount T) (values-at 0)
+        all-right (nodeKeyRow (T .pool) (T .nodes)) (nodeRow (T .pool) (nodeCount T) (T .nodes)) (nodeCount T) (values-at 0)
     each-obeyed (Value value.NodeKey) =
-        all-right (nodeRow (T .pool) (nodeCount T) (T .nodes)) (nodeKeyRow (T .pool) (T .nodes)) (nodeCount T) (values-at 0)
+        all-left (nodeKeyRow (T .pool) (T .nodes)) (nodeRow (T .pool) (nodeCount T) (T .nodes)) (nodeCount T) (values-at 0)
     each-obeyed (Value value.NodeKeysDiffer) = values-at 1
     each-obeyed (Value value.LiteralRow) =
         all-left (literalRow (T .pool) (nameCount T) (literalCount T) (T .literals)) (literalKeysDiffer (T .literals)) (literalCount T) (values-at 2)
@@ -237,7 +237,7 @@ module _ (T : Tables) where
     unfolding conj obeyed nodeHolds literalHolds
     values-hold =
         and-true
-        (all-both (nodeRow (T .pool) (nodeCount T) (T .nodes)) (nodeKeyRow (T .pool) (T .nodes)) (nodeCount T) (o (Value value.NodeRow)) (o (Value value.NodeKey)))
+        (all-both (nodeKeyRow (T .pool) (T .nodes)) (nodeRow (T .pool) (nodeCount T) (T .nodes)) (nodeCount T) (o (Value value.NodeKey)) (o (Value value.NodeRow)))
         (and-true (o (Value value.NodeKeysDiffer))
         (and-true
         (all-both (literalRow (T .pool) (nameCount T) (literalCount T) (T .literals)) (literalKeysDiffer (T .literals)) (literalCount T)

@@ -56,7 +56,7 @@ unfoldable pub setHolds : List ℕ → List ℕ → ℕ → Bool
 setHolds sets selections row = setRow (rowsOf selections selectionWidth) sets row && childSetsLarger sets selections row
 
 unfoldable pub nodeHolds : List ℕ → ℕ → List ℕ → ℕ → Bool
-nodeHolds pool count nodes row = nodeRow pool count nodes row && nodeKeyRow pool nodes row
+nodeHolds pool count nodes row = nodeKeyRow pool nodes row && nodeRow pool count nodes row
 
 unfoldable pub literalHolds : List ℕ → ℕ → ℕ → List ℕ → ℕ → Bool
 literalHolds pool names count literals row = literalRow pool names count literals row && literalKeysDiffer literals row

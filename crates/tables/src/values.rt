@@ -55,17 +55,17 @@ fn node_holds(pool: &[u8], whole: bool, count: u32, nodes: &[u32], row: u32) -> 
     requires { ⌜ row < rowsOf (now nodes) nodeWidth ⌝ }
     ensures { λ r. ⌜ r ≡ nodeHolds (now (pool .entry)) count (now (nodes .entry)) row ⌝ }
 {
-    let kind = word(nodes, NODE_WIDTH, row, NODE_KIND);
-    let a = word(nodes, NODE_WIDTH, row, NODE_ONE);
-    let b = word(nodes, NODE_WIDTH, row, NODE_TWO);
-    if !node_is_lawful(pool, whole, count, row, kind, a, b) {
-        return false;
-    }
     let key = Text {
         start: word(nodes, NODE_WIDTH, row, NODE_KEY_START),
         len: word(nodes, NODE_WIDTH, row, NODE_KEY_LENGTH),
     };
-    is_string(pool, whole, key)
+    if !is_string(pool, whole, key) {
+        return false;
+    }
+    let kind = word(nodes, NODE_WIDTH, row, NODE_KIND);
+    let a = word(nodes, NODE_WIDTH, row, NODE_ONE);
+    let b = word(nodes, NODE_WIDTH, row, NODE_TWO);
+    node_is_lawful(pool, whole, count, row, kind, a, b)
 }
 
 fn each_node_holds(pool: &[u8], whole: bool, nodes: &[u32]) -> bool

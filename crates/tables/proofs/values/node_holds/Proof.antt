@@ -7,15 +7,16 @@ use Rattle.tables.proofs.values.node_holds.Statement.{statement}
 use Rattle.tables.proofs.values.node_holds.Tie as tie
 
 returns : tie.Need-returns
-unfolding nodeHolds nodeAt
+unfolding nodeHolds nodeKey
 returns c =
-    rw (← (c .before .before .before .before .word .ensures), ← (c .before .before .before .word2 .ensures), ← (c .before .before .word3 .ensures), ← (c .before .node-is-lawful .ensures), turned-false (c .before .node-is-lawful .result) (c .if1 .taken))
+    rw (← (c .before .before .before .word .ensures), ← (c .before .before .word2 .ensures), ← (c .before .is-string .ensures), turned-false (c .before .is-string .result) (c .if1 .taken))
 
 returns-2 : tie.Need-returns-2
 unfolding nodeHolds nodeAt nodeKey
 returns-2 c =
-    rw (← (c .before .before .before .before .before .before .before .word .ensures), ← (c .before .before .before .before .before .before .word2 .ensures), ← (c .before .before .before .before .before .word3 .ensures), ← (c .before .before .before .before .node-is-lawful .ensures), turned-true (c .before .before .before .before .node-is-lawful .result) (c .before .before .before .if1 .left), ← (c .before .before .word4 .ensures), ← (c .before .word5 .ensures))
-    (c .is-string .ensures)
+    let key = c .before .before .before .before .before in
+    rw (← (key .before .before .word .ensures), ← (key .before .word2 .ensures), ← (key .is-string .ensures), turned-true (key .is-string .result) (c .before .before .before .before .if1 .left))
+    (rw (← (c .before .before .before .word3 .ensures), ← (c .before .before .word4 .ensures), ← (c .before .word5 .ensures)) (c .node-is-lawful .ensures))
 
 pub node-holds-spec : {M : Type 1} → statement M
 node-holds-spec =
@@ -24,8 +25,8 @@ node-holds-spec =
     (λ c κs. search needs)
     (λ c κs. search needs)
     (λ c κs. search needs)
-    (λ c κs. search needs)
     returns
+    (λ c κs. search needs)
     (λ c κs. search needs)
     (λ c κs. search needs)
     (λ c κs. search needs)
