@@ -245,6 +245,16 @@ fn put_block_escaped(text: &mut [u8], at: usize, s: &[u8], from: usize) -> usize
     put_each_escaped(text, at, &s[from..end])
 }
 
+// A few bytes of a string, as a run where each stands for itself.
+fn put_few_escaped(text: &mut [u8], at: usize, s: &[u8]) -> usize
+    ensures { λ r. ⌜ Writes (now (text .entry)) (now (text .exit)) at r (escapedAll (now (s .entry))) ⌝ }
+{
+    if are_plain(s) {
+        return put_all(text, at, s);
+    }
+    put_each_escaped(text, at, s)
+}
+
 // The bytes of a string, without its quotation marks.
 fn put_escaped_all(text: &mut [u8], at: usize, s: &[u8]) -> usize
     ensures { λ r. ⌜ Writes (now (text .entry)) (now (text .exit)) at r (escapedAll (now (s .entry))) ⌝ }
@@ -255,7 +265,7 @@ fn put_escaped_all(text: &mut [u8], at: usize, s: &[u8]) -> usize
         next = put_block_escaped(text, next, s, i);
         i += 16;
     }
-    put_each_escaped(text, next, &s[i..])
+    put_few_escaped(text, next, &s[i..])
 }
 
 pub fn put_string(text: &mut [u8], at: usize, s: &[u8]) -> usize

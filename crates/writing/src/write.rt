@@ -1,7 +1,8 @@
 // Bytes put into a buffer, one or a run. What a position means is said at `Wrote`, and what is put at `Writes`, both in specs/Wrote.antt.
+ghost use mathlib.Core.Path.{_≡_};
 ghost use mathlib.Core.List.{[], _∷_};
 ghost use Prim.Native.Nat.{_+_, _≤_};
-ghost use lib.ListN.{length};
+ghost use lib.ListN.{length, take, drop};
 ghost use Rattle.writing.specs.Wrote.{Writes};
 
 // One byte. Past the end the position is the length and one, however often one goes on from there, so it never wraps.
@@ -61,12 +62,50 @@ fn put_each(text: &mut [u8], at: usize, s: &[u8]) -> usize
     next
 }
 
+// Eight bytes of a run. Read into an array of their own they are known to lie apart from the text, and are written in one step.
+fn eight_at(s: &[u8], from: usize) -> [u8; 8]
+    requires { ⌜ from + 8 ≤ length (now s) ⌝ }
+    ensures { λ r. ⌜ r ≡ take 8 (drop from (now (s .entry))) ⌝ }
+{
+    let mut block = [0u8; 8];
+    let mut i = 0;
+    while i < 8 {
+        block[i] = s[from + i];
+        i += 1;
+    }
+    block
+}
+
+// At most sixteen bytes that fit: the first eight and the last eight, or four and four, whatever they have in common.
+fn put_few(text: &mut [u8], at: usize, s: &[u8]) -> usize
+    requires { ⌜ at + length (now s) ≤ length (now text) ⌝ }
+    requires { ⌜ length (now s) ≤ 16 ⌝ }
+    ensures { λ r. ⌜ Writes (now (text .entry)) (now (text .exit)) at r (now (s .entry)) ⌝ }
+{
+    if 8 <= s.len() {
+        let rest = s.len() - 8;
+        let first = eight_at(s, 0);
+        let last = eight_at(s, rest);
+        put_fitting(text, at, &first);
+        return put_fitting(text, at + rest, &last);
+    }
+    if 4 <= s.len() {
+        let rest = s.len() - 4;
+        put_four(text, at, s[0], s[1], s[2], s[3]);
+        return put_four(text, at + rest, s[rest], s[rest + 1], s[rest + 2], s[rest + 3]);
+    }
+    put_each(text, at, s)
+}
+
 // A run of bytes.
 pub fn put_all(text: &mut [u8], at: usize, s: &[u8]) -> usize
     ensures { λ r. ⌜ Writes (now (text .entry)) (now (text .exit)) at r (now (s .entry)) ⌝ }
 {
     if at < text.len() {
         if s.len() <= text.len() - at {
+            if s.len() <= 16 {
+                return put_few(text, at, s);
+            }
             return put_fitting(text, at, s);
         }
     }
