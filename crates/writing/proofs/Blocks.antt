@@ -1,12 +1,12 @@
--- A block of sixteen bytes: read out of a text byte by byte, and looked at byte by byte. Assumes nothing.
+-- A few bytes of a text: read into an array byte by byte, looked at byte by byte, and named by their places. Assumes nothing.
 use mathlib.Core.Path.{_≡_, refl, sym, ap, _∙_}
 use mathlib.Core.Bool.{Bool, true, _&&_}
 use mathlib.Core.List.{List, [], _∷_, _++_}
-use Prim.Native.Nat.{ℕ, _+_, _-_, _≤_, _<_}
+use Prim.Native.Nat.{ℕ, suc, _+_, _≤_, _<_}
 use native.Mathlib.Omega.{arith}
 use native.Mathlib.Numerals.{add-one}
-use lib.ListN.{length, take, drop, getD, set, length-set, length-take, length-drop}
-use lib.Seq.{take-suc, take-suc-set, take-all, getD-drop}
+use lib.ListN.{length, take, drop, getD, set, length-set, length-drop}
+use lib.Seq.{take-suc, take-suc-set, take-all, drop-cons, getD-drop}
 use Rattle.writing.specs.Escape.{isPlain, allPlain}
 use Rattle.writing.proofs.EscapeLaws.{allPlain-snoc}
 
@@ -45,3 +45,16 @@ module _ (block : List ℕ) (plain : Bool) (i : ℕ) (inv : plain ≡ allPlain (
 pub plain-none : (block : List ℕ) → true ≡ allPlain (take 0 block)
 unfolding allPlain
 plain-none block = refl
+
+-- ---- by their places
+
+pub four-at : (s : List ℕ) (r : ℕ) → r + 4 ≤ length s → take 4 (drop r s) ≡ getD s r 0 ∷ getD s (r + 1) 0 ∷ getD s (r + 2) 0 ∷ getD s (r + 3) 0 ∷ []
+four-at s r h =
+    let e₁ : r + 1 ≡ suc r = omega arith in
+    let e₂ : r + 2 ≡ suc (suc r) = omega arith in
+    let e₃ : r + 3 ≡ suc (suc (suc r)) = omega arith in
+    let h₀ : r < length s = omega arith in
+    let h₁ : suc r < length s = omega arith in
+    let h₂ : suc (suc r) < length s = omega arith in
+    let h₃ : suc (suc (suc r)) < length s = omega arith in
+    rw (e₁, e₂, e₃, drop-cons s r 0 h₀, drop-cons s (suc r) 0 h₁, drop-cons s (suc (suc r)) 0 h₂, drop-cons s (suc (suc (suc r))) 0 h₃)

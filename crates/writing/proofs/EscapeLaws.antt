@@ -1,11 +1,13 @@
 -- `escaped` by its three cases, and strings put together. Each follows from the tests of the definition. Assumes nothing.
 use mathlib.Core.Path.{_≡_, refl, sym, ap, _∙_}
 use mathlib.Core.List.{List, [], _∷_, _++_, append-assoc, append-nil}
-use Prim.Native.Nat.{ℕ, _≤_, _<_}
+use Prim.Native.Nat.{ℕ, _+_, _-_, _≤_, _<_}
 use mathlib.Core.Bool.{Bool, true, false, true≢false, not, _&&_, and-true, and-assoc}
 use native.Mathlib.Omega.{arith}
 use borrow.Author.Tests.{lt-ltb, le-ltb, leb-true, leb-false, ne-eqb}
 use lib.Dec.{ltb, leb, eqb}
+use lib.ListN.{length, take, drop, length-drop, take-append-drop}
+use lib.Seq.{take-add, take-all}
 use Rattle.writing.specs.Escape.{escapeLetter, codePointEscape, isPlain, allPlain, escaped, escapedAll}
 
 -- a letter l was found for b
@@ -63,7 +65,31 @@ escapedAll-plain (x ∷ xs) e = by-test (isPlain x) refl (escapedAll-plain xs) e
     by-test true p rest q = rw (escaped-plain x p, rest q)
     by-test false p rest q = absurd (true≢false (sym q))
 
+allPlain-append : (xs ys : List ℕ) → allPlain (xs ++ ys) ≡ (allPlain xs && allPlain ys)
+unfolding allPlain
+allPlain-append [] ys = refl
+allPlain-append (x ∷ xs) ys = ap (λ (rest : Bool). isPlain x && rest) (allPlain-append xs ys) ∙ sym (and-assoc (isPlain x) (allPlain xs) (allPlain ys))
+
 pub allPlain-snoc : (xs : List ℕ) (x : ℕ) → allPlain (xs ++ (x ∷ [])) ≡ (allPlain xs && isPlain x)
 unfolding allPlain
-allPlain-snoc [] x = and-true (isPlain x)
-allPlain-snoc (y ∷ xs) x = ap (λ (rest : Bool). isPlain y && rest) (allPlain-snoc xs x) ∙ sym (and-assoc (isPlain y) (allPlain xs) (isPlain x))
+allPlain-snoc xs x = allPlain-append xs (x ∷ []) ∙ ap (λ (last : Bool). allPlain xs && last) (and-true (isPlain x))
+
+-- The first k bytes are plain and the last k, if these reach into one another: all are.
+pub allPlain-lapped : (k : ℕ) (s : List ℕ) → k ≤ length s → length s ≤ k + k → (allPlain (take k s) && allPlain (take k (drop (length s - k) s))) ≡ allPlain s
+allPlain-lapped k s h g =
+    let j = length s - k in
+    let x = take j s in
+    let y = drop j s in
+    let m = take (k - j) y in
+    let z = drop (k - j) y in
+    let size : k ≡ j + (k - j) = omega arith in
+    let front : take k s ≡ x ++ m = ap (λ (n : ℕ). take n s) size ∙ take-add j (k - j) s in
+    let back : take k y ≡ y = take-all k y (omega (arith, length-drop j s)) in
+    let behind : allPlain y ≡ (allPlain m && allPlain z) = ap allPlain (sym (take-append-drop (k - j) y)) ∙ allPlain-append m z in
+    let whole : allPlain s ≡ (allPlain x && allPlain y) = ap allPlain (sym (take-append-drop j s)) ∙ allPlain-append x y in
+    rw (front, back, whole, allPlain-append x m, behind) (shared (allPlain x) (allPlain m) (allPlain z))
+  where
+    shared : (a b c : Bool) → ((a && b) && (b && c)) ≡ (a && (b && c))
+    shared true true c = refl
+    shared true false c = refl
+    shared false b c = refl

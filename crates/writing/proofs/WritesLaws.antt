@@ -5,8 +5,8 @@ use mathlib.Core.List.{List, [], _∷_, _++_, append-assoc, append-nil}
 use Prim.Native.Nat.{ℕ, zero, suc, _+_, _-_, _≤_, _<_, min}
 use native.Mathlib.Omega.{arith}
 use native.Mathlib.Nat.{zero-sub, suc-sub-suc, suc-add, zero-add, sub-zero}
-use lib.ListN.{length, take, drop, getD, set, length-set, length-append, length-take, length-drop, take-append-drop}
-use lib.Seq.{set-out, length-take-le, take-all, take-add, take-at, take-nil, drop-cons, drop-nil}
+use lib.ListN.{length, take, drop, set, length-set, length-append, length-take, length-drop, take-append-drop}
+use lib.Seq.{set-out, length-take-le, take-all, take-add, take-at, take-nil, drop-nil}
 use Rattle.writing.specs.Wrote.{Wrote, Writes, written, saturated}
 
 -- ---- `written`, element by element
@@ -210,15 +210,3 @@ lapped {t} {t1} {t2} {a} {a1} {a2} k s h g f w v =
         v .moved ∙ ap (saturated t1 (a + j)) back ∙ saturated-fits t1 (a + j) y (omega (arith, w .wrote .long)) ∙ omega arith ∙ sym (saturated-fits t a s f)
     in
     writes e2 e3
-
--- four elements of a list by their places
-pub four-at : (s : List ℕ) (r : ℕ) → r + 4 ≤ length s → take 4 (drop r s) ≡ getD s r 0 ∷ getD s (r + 1) 0 ∷ getD s (r + 2) 0 ∷ getD s (r + 3) 0 ∷ []
-four-at s r h =
-    let e₁ : r + 1 ≡ suc r = omega arith in
-    let e₂ : r + 2 ≡ suc (suc r) = omega arith in
-    let e₃ : r + 3 ≡ suc (suc (suc r)) = omega arith in
-    let h₀ : r < length s = omega arith in
-    let h₁ : suc r < length s = omega arith in
-    let h₂ : suc (suc r) < length s = omega arith in
-    let h₃ : suc (suc (suc r)) < length s = omega arith in
-    rw (e₁, e₂, e₃, drop-cons s r 0 h₀, drop-cons s (suc r) 0 h₁, drop-cons s (suc (suc r)) 0 h₂, drop-cons s (suc (suc (suc r))) 0 h₃)

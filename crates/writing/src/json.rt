@@ -7,6 +7,7 @@ ghost use Rattle.writing.specs.Wrote.{Writes};
 ghost use Rattle.writing.specs.Literal.{nullName, trueName, falseName};
 ghost use Rattle.writing.specs.Decimal.{decimal, fourDigits, eightDigits};
 ghost use Rattle.writing.specs.Escape.{escapeLetter, hexDigit, codePointEscape, isPlain, allPlain, escaped, escapedAll, quoted};
+use crate::write::eight_at;
 use crate::write::put;
 use crate::write::put_all;
 use crate::write::put_fitting;
@@ -245,11 +246,38 @@ fn put_block_escaped(text: &mut [u8], at: usize, s: &[u8], from: usize) -> usize
     put_each_escaped(text, at, &s[from..end])
 }
 
-// A few bytes of a string, as a run where each stands for itself.
+fn are_four_plain(a: u8, b: u8, c: u8, d: u8) -> bool
+    ensures { λ r. ⌜ r ≡ allPlain (a ∷ b ∷ c ∷ d ∷ []) ⌝ }
+{
+    is_plain(a) & (is_plain(b) & (is_plain(c) & is_plain(d)))
+}
+
+// Whether each of at most sixteen bytes stands for itself: the first eight and the last eight, or four and four, whatever they have
+// in common. No loop is left at a byte that nothing foretells.
+fn are_few_plain(s: &[u8]) -> bool
+    requires { ⌜ length (now s) ≤ 16 ⌝ }
+    ensures { λ r. ⌜ r ≡ allPlain (now (s .entry)) ⌝ }
+{
+    if 8 <= s.len() {
+        let rest = s.len() - 8;
+        let first = eight_at(s, 0);
+        let last = eight_at(s, rest);
+        return are_plain(&first) & are_plain(&last);
+    }
+    if 4 <= s.len() {
+        let rest = s.len() - 4;
+        let first = are_four_plain(s[0], s[1], s[2], s[3]);
+        return first & are_four_plain(s[rest], s[rest + 1], s[rest + 2], s[rest + 3]);
+    }
+    are_plain(s)
+}
+
+// At most sixteen bytes of a string, as a run where each stands for itself.
 fn put_few_escaped(text: &mut [u8], at: usize, s: &[u8]) -> usize
+    requires { ⌜ length (now s) ≤ 16 ⌝ }
     ensures { λ r. ⌜ Writes (now (text .entry)) (now (text .exit)) at r (escapedAll (now (s .entry))) ⌝ }
 {
-    if are_plain(s) {
+    if are_few_plain(s) {
         return put_all(text, at, s);
     }
     put_each_escaped(text, at, s)

@@ -63,7 +63,7 @@ fn put_each(text: &mut [u8], at: usize, s: &[u8]) -> usize
 }
 
 // Eight bytes of a run. Read into an array of their own they are known to lie apart from the text, and are written in one step.
-fn eight_at(s: &[u8], from: usize) -> [u8; 8]
+pub(crate) fn eight_at(s: &[u8], from: usize) -> [u8; 8]
     requires { ⌜ from + 8 ≤ length (now s) ⌝ }
     ensures { λ r. ⌜ r ≡ take 8 (drop from (now (s .entry))) ⌝ }
 {

@@ -6,7 +6,7 @@ use Rattle.writing.proofs.json.put_few_escaped.Statement.{statement}
 use Rattle.writing.proofs.json.put_few_escaped.Tie as tie
 
 returns : tie.Need-returns
-returns c = rw (escapedAll-plain _ (sym (c .before .before .before .before .before .are-plain .ensures) ∙ c .before .before .before .before .if1 .taken)) (c .before .before .put-all .ensures)
+returns c = rw (escapedAll-plain _ (sym (c .before .before .before .before .before .are-few-plain .ensures) ∙ c .before .before .before .before .if1 .taken)) (c .before .before .put-all .ensures)
 
 pub put-few-escaped-spec : {M : Type 1} → statement M
 put-few-escaped-spec =

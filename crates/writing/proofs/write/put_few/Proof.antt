@@ -3,7 +3,8 @@ use mathlib.Core.Path.{sym}
 use Prim.Native.Nat.{_-_}
 use native.Mathlib.Omega.{arith}
 use lib.ListN.{length}
-use Rattle.writing.proofs.WritesLaws.{same, lapped, four-at}
+use Rattle.writing.proofs.WritesLaws.{same, lapped}
+use Rattle.writing.proofs.Blocks.{four-at}
 use borrow.Author.Needs.{needs}
 use Rattle.writing.proofs.write.put_few.Statement.{statement}
 use Rattle.writing.proofs.write.put_few.Tie as tie
