@@ -10,7 +10,9 @@ use Rattle.writing.proofs.json.put_block_escaped.Tie as tie
 
 returns : tie.Need-returns
 returns c =
-    rw (← (c .before .before .before .before .before .before .before .before .before .before .block-at .ensures), escapedAll-plain _ (sym (c .before .before .before .before .before .before .before .before .are-plain .ensures) ∙ c .before .before .before .before .before .before .before .if1 .taken)) (c .before .before .put-fitting .ensures)
+    let p = c .before .before .before .before .before .before .before in
+    rw (← (p .before .before .before .block-at .ensures), escapedAll-plain _ (sym (p .before .are-plain .ensures) ∙ p .if1 .taken))
+    (c .before .before .put-fitting .ensures)
 
 returns-2 : tie.Need-returns-2
 returns-2 c =

@@ -6,8 +6,10 @@ use Rattle.writing.proofs.json.put_code_point_escape.Tie as tie
 
 returns : tie.Need-returns
 returns c =
-    rw (← (c .before .before .before .before .before .before .before .before .before .before .before .before .before .hex-digit .ensures), ← (c .before .before .before .before .before .before .before .before .before .before .before .before .hex-digit2 .ensures))
-    («then» (c .before .before .before .before .before .before .before .before .before .before .put-four .ensures) (cons (c .before .before .before .before .before .before .put .ensures) (c .before .before .put2 .ensures)))
+    let p = c .before .before .before .before .before .before in
+    let q = p .before .before .before .before in
+    rw (← (q .before .before .before .hex-digit .ensures), ← (q .before .before .hex-digit2 .ensures))
+    («then» (q .put-four .ensures) (cons (p .put .ensures) (c .before .before .put2 .ensures)))
 
 pub put-code-point-escape-spec : {M : Type 1} → statement M
 put-code-point-escape-spec =

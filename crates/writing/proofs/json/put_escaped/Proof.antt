@@ -7,15 +7,21 @@ use Rattle.writing.proofs.json.put_escaped.Statement.{statement}
 use Rattle.writing.proofs.json.put_escaped.Tie as tie
 
 returns : tie.Need-returns
-returns c = same (sym (escaped-plain _ (sym (c .before .before .before .before .before .is-plain .ensures) ∙ c .before .before .before .before .if1 .taken))) (c .before .before .put .ensures)
+returns c =
+    let p = c .before .before in
+    same (sym (escaped-plain _ (sym (p .before .before .before .is-plain .ensures) ∙ p .before .before .if1 .taken))) (p .put .ensures)
 
 returns-2 : tie.Need-returns-2
 returns-2 c =
-    same (sym (escaped-letter _ (c .before .before .before .before .before .before .before .before .before .escape-letter .ensures) (c .before .before .before .before .before .before .before .before .if2 .taken))) (cons (c .before .before .before .before .before .before .put2 .ensures) (c .before .before .put3 .ensures))
+    let p = c .before .before .before .before .before .before in
+    same (sym (escaped-letter _ (p .before .before .before .escape-letter .ensures) (p .before .before .if2 .taken)))
+    (cons (p .put2 .ensures) (c .before .before .put3 .ensures))
 
 returns-3 : tie.Need-returns-3
 returns-3 c =
-    same (sym (escaped-control _ (sym (c .before .before .before .before .before .before .before .is-plain .ensures) ∙ c .before .before .before .before .before .before .if1 .left) (c .before .before .before .before .before .escape-letter .ensures) (c .before .before .before .before .if2 .left)))
+    let p = c .before .before .before .before in
+    same (sym (escaped-control _ (sym (p .before .before .before .is-plain .ensures) ∙ p .before .before .if1 .left)
+    (p .before .escape-letter .ensures) (p .if2 .left)))
     (c .before .before .put-code-point-escape .ensures)
 
 pub put-escaped-spec : {M : Type 1} → statement M

@@ -7,12 +7,19 @@ use Rattle.writing.proofs.json.put_long.Statement.{statement}
 use Rattle.writing.proofs.json.put_long.Tie as tie
 
 returns : tie.Need-returns
-returns c = same (sym (decimal-last-eight _ (c .before .before .before .before .before .before .before .before .before .before .pre))) («then» (c .before .before .before .before .before .before .put-middling .ensures) (c .before .before .put-eight-digits .ensures))
+returns c =
+    let p = c .before .before .before .before .before .before in
+    same (sym (decimal-last-eight _ (p .before .before .before .before .pre)))
+    («then» (p .put-middling .ensures) (c .before .before .put-eight-digits .ensures))
 
 returns-2 : tie.Need-returns-2
 returns-2 c =
-    same (sym (decimal-last-eight _ (c .before .before .before .before .before .before .before .before .before .before .before .before .before .before .pre)))
-    («then» (same (sym (decimal-last-eight _ (c .before .before .before .before .before .before .before .before .before .before .before .before .if1 .left))) («then» (c .before .before .before .before .before .before .before .before .before .before .put-short .ensures) (c .before .before .before .before .before .before .put-eight-digits2 .ensures))) (c .before .before .put-eight-digits3 .ensures))
+    let p = c .before .before .before .before .before .before in
+    let q = p .before .before .before .before in
+    same (sym (decimal-last-eight _ (q .before .before .before .before .pre)))
+    («then»
+    (same (sym (decimal-last-eight _ (q .before .before .if1 .left))) («then» (q .put-short .ensures) (p .put-eight-digits2 .ensures)))
+    (c .before .before .put-eight-digits3 .ensures))
 
 pub put-long-spec : {M : Type 1} → statement M
 put-long-spec =

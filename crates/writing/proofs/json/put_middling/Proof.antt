@@ -8,7 +8,8 @@ use Rattle.writing.proofs.json.put_middling.Tie as tie
 
 returns-2 : tie.Need-returns-2
 returns-2 c =
-    same (sym (decimal-last-four _ (c .before .before .before .before .before .before .before .before .if1 .left))) («then» (c .before .before .before .before .before .before .put-short2 .ensures) (c .before .before .put-four-digits .ensures))
+    let p = c .before .before .before .before .before .before in
+    same (sym (decimal-last-four _ (p .before .before .if1 .left))) («then» (p .put-short2 .ensures) (c .before .before .put-four-digits .ensures))
 
 pub put-middling-spec : {M : Type 1} → statement M
 put-middling-spec =

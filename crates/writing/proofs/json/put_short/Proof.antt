@@ -10,15 +10,22 @@ returns : tie.Need-returns
 returns c = same (sym (decimal-small _ (c .before .before .before .before .if1 .taken))) (c .before .before .put .ensures)
 
 returns-2 : tie.Need-returns-2
-returns-2 c = same (sym (decimal-two _ (c .before .before .before .before .before .before .before .before .before .if1 .left) (c .before .before .before .before .before .before .before .before .if2 .taken))) (cons (c .before .before .before .before .before .before .put2 .ensures) (c .before .before .put3 .ensures))
+returns-2 c =
+    let p = c .before .before .before .before .before .before in
+    same (sym (decimal-two _ (p .before .before .before .if1 .left) (p .before .before .if2 .taken)))
+    (cons (p .put2 .ensures) (c .before .before .put3 .ensures))
 
 returns-3 : tie.Need-returns-3
 returns-3 c =
-    same (sym (decimal-three _ (c .before .before .before .before .before .before .before .before .before .before .before .before .before .if2 .left) (c .before .before .before .before .before .before .before .before .before .before .before .before .if3 .taken)))
-    (cons (c .before .before .before .before .before .before .before .before .before .before .put4 .ensures) (cons (c .before .before .before .before .before .before .put5 .ensures) (c .before .before .put6 .ensures)))
+    let p = c .before .before .before .before .before .before in
+    let q = p .before .before .before .before in
+    same (sym (decimal-three _ (q .before .before .before .if2 .left) (q .before .before .if3 .taken)))
+    (cons (q .put4 .ensures) (cons (p .put5 .ensures) (c .before .before .put6 .ensures)))
 
 returns-4 : tie.Need-returns-4
-returns-4 c = same (sym (decimal-four _ (c .before .before .before .before .if3 .left) (c .before .before .before .before .before .before .before .before .pre))) (c .before .before .put-four-digits .ensures)
+returns-4 c =
+    let p = c .before .before in
+    same (sym (decimal-four _ (p .before .before .if3 .left) (p .before .before .before .before .before .before .pre))) (p .put-four-digits .ensures)
 
 pub put-short-spec : {M : Type 1} → statement M
 put-short-spec =

@@ -11,15 +11,19 @@ use Rattle.writing.proofs.write.put_few.Tie as tie
 
 returns : tie.Need-returns
 returns c =
-    lapped 8 _ (c .before .before .before .before .before .before .before .before .before .before .before .before .if1 .taken) (c .before .before .before .before .before .before .before .before .before .before .before .before .before .before .before .pre .1) (c .before .before .before .before .before .before .before .before .before .before .before .before .before .before .before .pre .0)
-    (same (c .before .before .before .before .before .before .before .before .before .before .before .eight-at .ensures) (c .before .before .before .before .before .before .before .put-fitting .ensures))
-    (same (c .before .before .before .before .before .before .before .before .before .before .eight-at2 .ensures) (c .before .before .put-fitting2 .ensures))
+    let p = c .before .before .before .before .before .before .before in
+    let q = p .before .before .before .before in
+    lapped 8 _ (q .before .if1 .taken) (q .before .before .before .before .pre .1) (q .before .before .before .before .pre .0)
+    (same (q .eight-at .ensures) (p .put-fitting .ensures))
+    (same (p .before .before .before .eight-at2 .ensures) (c .before .before .put-fitting2 .ensures))
 
 returns-2 : tie.Need-returns-2
 returns-2 c =
-    let s = c .before .before .before .before .before .before .before .before .before .before .before .before .before .before .before .before .before .before .before .before .args .s .now in
-    lapped 4 s (c .before .before .before .before .before .before .before .before .before .before .before .before .before .before .before .before .if2 .taken) (omega arith) (c .before .before .before .before .before .before .before .before .before .before .before .before .before .before .before .before .before .before .before .before .pre .0)
-    (same (sym (four-at s 0 (omega arith))) (c .before .before .before .before .before .before .before .before .before .before .put-four .ensures))
+    let p = c .before .before .before .before .before .before .before .before .before .before in
+    let q = p .before .before .before .before .before .before in
+    let s = q .before .before .before .before .args .s .now in
+    lapped 4 s (q .if2 .taken) (omega arith) (q .before .before .before .before .pre .0)
+    (same (sym (four-at s 0 (omega arith))) (p .put-four .ensures))
     (same (sym (four-at s (length s - 4) (omega arith))) (c .before .before .put-four2 .ensures))
 
 pub put-few-spec : {M : Type 1} → statement M

@@ -20,8 +20,10 @@ returns c = search four
 
 returns-2 : tie.Need-returns-2
 returns-2 c =
-    cons (c .before .before .before .before .before .before .before .before .before .before .before .before .before .before .put .ensures)
-    (cons (c .before .before .before .before .before .before .before .before .before .before .put2 .ensures) (cons (c .before .before .before .before .before .before .put3 .ensures) (c .before .before .put4 .ensures)))
+    let p = c .before .before .before .before .before .before in
+    let q = p .before .before .before .before in
+    cons (q .before .before .before .before .put .ensures)
+    (cons (q .put2 .ensures) (cons (p .put3 .ensures) (c .before .before .put4 .ensures)))
 
 pub put-four-spec : {M : Type 1} → statement M
 put-four-spec =
