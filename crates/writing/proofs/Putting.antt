@@ -28,7 +28,7 @@ put-end {s = s} {i = i} g h = rw (take-all i s h) at (g .writes)
 -- ---- part by part, where what is written for two parts is what is written for both together
 
 module _ {whole : List ℕ → List ℕ} {text₀ s text text' : List ℕ} {at next next' i : ℕ} (joins : (xs ys : List ℕ) → whole (xs ++ ys) ≡ whole xs ++ whole ys)
-  (g : Putting whole text₀ at s text next i) where
+    (g : Putting whole text₀ at s text next i) where
   pub put-part : (n : ℕ) → i + n ≤ length s → Writes text text' next next' (whole (take n (drop i s))) → Putting whole text₀ at s text' next' (i + n)
   put-part n h w = record { within = h; writes = rw (take-add i n s, joins (take i s) (take n (drop i s))) («then» (g .writes) w) }
 

@@ -196,17 +196,17 @@ lapped {t} {t1} {t2} {a} {a1} {a2} k s h g f w v =
     let front : take k s ≡ x ++ m = ap (λ (n : ℕ). take n s) size ∙ take-add j (k - j) s in
     let back : take k y ≡ y = take-all k y (omega arith) in
     let e1 : t1 ≡ written (written t a x) (a + j) m =
-        w .exact ∙ ap (written t a) front ∙ sym (written-behind t a x m (omega arith)) ∙ ap (λ (n : ℕ). written (written t a x) (a + n) m) lx
+    w .exact ∙ ap (written t a) front ∙ sym (written-behind t a x m (omega arith)) ∙ ap (λ (n : ℕ). written (written t a x) (a + n) m) lx
     in
     let e2 : t2 ≡ written t a s =
-        v .exact
-        ∙ (λ i. written (e1 i) (a + j) (back i))
-        ∙ written-again (written t a x) (a + j) m y (omega (arith, length-take (k - j) y))
-        ∙ ap (λ (n : ℕ). written (written t a x) (a + n) y) (sym lx)
-        ∙ written-behind t a x y (omega arith)
-        ∙ ap (written t a) whole
+    v .exact
+    ∙ (λ i. written (e1 i) (a + j) (back i))
+    ∙ written-again (written t a x) (a + j) m y (omega (arith, length-take (k - j) y))
+    ∙ ap (λ (n : ℕ). written (written t a x) (a + n) y) (sym lx)
+    ∙ written-behind t a x y (omega arith)
+    ∙ ap (written t a) whole
     in
     let e3 : a2 ≡ saturated t a s =
-        v .moved ∙ ap (saturated t1 (a + j)) back ∙ saturated-fits t1 (a + j) y (omega (arith, w .wrote .long)) ∙ omega arith ∙ sym (saturated-fits t a s f)
+    v .moved ∙ ap (saturated t1 (a + j)) back ∙ saturated-fits t1 (a + j) y (omega (arith, w .wrote .long)) ∙ omega arith ∙ sym (saturated-fits t a s f)
     in
     writes e2 e3

@@ -92,7 +92,14 @@ fn put_few(text: &mut [u8], at: usize, s: &[u8]) -> usize
     if 4 <= s.len() {
         let rest = s.len() - 4;
         put_four(text, at, s[0], s[1], s[2], s[3]);
-        return put_four(text, at + rest, s[rest], s[rest + 1], s[rest + 2], s[rest + 3]);
+        return put_four(
+            text,
+            at + rest,
+            s[rest],
+            s[rest + 1],
+            s[rest + 2],
+            s[rest + 3],
+        );
     }
     put_each(text, at, s)
 }

@@ -16,7 +16,7 @@ returns c =
     let p = c .before .before in
     let q = p .before .before .before in
     (λ i. (p .are-plain .ensures ∙ ap allPlain (q .eight-at .ensures)) i
-        && (c .are-plain2 .ensures ∙ ap allPlain (p .before .before .eight-at2 .ensures)) i)
+    && (c .are-plain2 .ensures ∙ ap allPlain (p .before .before .eight-at2 .ensures)) i)
     ∙ allPlain-lapped 8 _ (q .before .if1 .taken) (q .before .before .before .pre)
 
 returns-2 : tie.Need-returns-2
@@ -25,7 +25,7 @@ returns-2 c =
     let q = p .before .before .before .before .before in
     let s = q .before .before .before .args .s .now in
     (λ i. (p .are-four-plain .ensures ∙ ap allPlain (sym (four-at s 0 (omega arith)))) i
-        && (c .are-four-plain2 .ensures ∙ ap allPlain (sym (four-at s (length s - 4) (omega arith)))) i)
+    && (c .are-four-plain2 .ensures ∙ ap allPlain (sym (four-at s (length s - 4) (omega arith)))) i)
     ∙ allPlain-lapped 4 s (q .if2 .taken) (omega arith)
 
 pub are-few-plain-spec : {M : Type 1} → statement M
