@@ -8,3 +8,4 @@ mod Putting
 mod Closing
 mod Rotation
 mod Clearing
+mod Blocks

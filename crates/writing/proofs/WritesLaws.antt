@@ -5,8 +5,8 @@ use mathlib.Core.List.{List, [], _∷_, _++_, append-assoc, append-nil}
 use Prim.Native.Nat.{ℕ, zero, suc, _+_, _-_, _≤_, _<_, min}
 use native.Mathlib.Omega.{arith}
 use native.Mathlib.Nat.{zero-sub, suc-sub-suc, suc-add, zero-add, sub-zero}
-use lib.ListN.{length, take, drop, set, length-append, length-take, length-drop}
-use lib.Seq.{set-out, length-take-le, take-all, take-at, take-nil, drop-nil}
+use lib.ListN.{length, take, drop, set, length-set, length-append, length-take, length-drop, take-append-drop}
+use lib.Seq.{set-out, length-take-le, take-all, take-add, take-at, take-nil, drop-nil}
 use Rattle.writing.specs.Wrote.{Wrote, Writes, written, saturated}
 
 -- ---- `written`, element by element
@@ -124,6 +124,10 @@ pub one : (t : List ℕ) (a b : ℕ) → a < length t → Writes t (set t a b) a
 unfolding saturated
 one t a b h = writes (written-one t a b) (omega arith)
 
+-- The same, with the position after it written in another way.
+pub one-to : (t : List ℕ) (a a' b : ℕ) → a < length t → a' ≡ a + 1 → Writes t (set t a b) a a' (b ∷ [])
+one-to t a a' b h e = rw e (one t a b h)
+
 -- One element, where there is no room: the position says so.
 pub past : (t : List ℕ) (a b : ℕ) → length t ≤ a → Writes t t a (length t + 1) (b ∷ [])
 unfolding saturated
@@ -145,3 +149,64 @@ pub «then» : {t t' t'' : List ℕ} {a a' a'' : ℕ} {x y : List ℕ} → Write
 -- The same where the first step wrote one element: a list that is written element by element is put together by this.
 pub cons : {t t' t'' : List ℕ} {a a' a'' b : ℕ} {y : List ℕ} → Writes t t' a a' (b ∷ []) → Writes t' t'' a' a'' y → Writes t t'' a a'' (b ∷ y)
 cons w v = «then» w v
+
+-- Four elements, where there is room for all of them.
+pub four : (t : List ℕ) (a w x y z : ℕ) → a < length t → 4 ≤ length t - a → Writes t (set (set (set (set t a w) (a + 1) x) (a + 2) y) (a + 3) z) a (a + 4) (w ∷ x ∷ y ∷ z ∷ [])
+four t a w x y z h k =
+    let t1 = set t a w in
+    let t2 = set t1 (a + 1) x in
+    let t3 = set t2 (a + 2) y in
+    cons (one t a w h)
+    (cons (one-to t1 (a + 1) (a + 2) x (simp length-set (omega arith)) (omega arith))
+    (cons (one-to t2 (a + 2) (a + 3) y (simp length-set (omega arith)) (omega arith)) (one-to t3 (a + 3) (a + 4) z (simp length-set (omega arith)) (omega arith))))
+
+-- ---- laid over again
+
+-- What is laid over as much again leaves nothing of it.
+written-again : (t : List ℕ) (a : ℕ) (x y : List ℕ) → length x ≤ length y → written (written t a x) a y ≡ written t a y
+written-again [] a x y h = rw (written-empty a x)
+written-again (e ∷ t) zero [] y h = rw (written-nothing (e ∷ t) zero)
+written-again (e ∷ t) zero (b ∷ x) [] h = absurd (omega arith)
+written-again (e ∷ t) zero (b ∷ x) (c ∷ y) h =
+    rw (written-here e t b x, written-here b (written t zero x) c y, written-here e t c y) (ap (λ (l : List ℕ). c ∷ l) (written-again t zero x y (omega arith)))
+written-again (e ∷ t) (suc a) x y h =
+    rw (written-on e t a x, written-on e (written t a x) a y, written-on e t a y) (ap (λ (l : List ℕ). e ∷ l) (written-again t a x y h))
+
+saturated-fits : (t : List ℕ) (a : ℕ) (x : List ℕ) → a + length x ≤ length t → saturated t a x ≡ a + length x
+unfolding saturated
+saturated-fits t a [] h = omega arith
+saturated-fits t a (b ∷ x) h = omega arith
+
+-- one run behind another, where the first fits
+written-behind : (t : List ℕ) (a : ℕ) (x y : List ℕ) → a + length x ≤ length t → written (written t a x) (a + length x) y ≡ written t a (x ++ y)
+written-behind t a x y h = rw (← (saturated-fits t a x h)) (written-then t a x y)
+
+-- A run that fits is written by its first k elements and its last k, if these reach into one another.
+pub lapped : {t t1 t2 : List ℕ} {a a1 a2 : ℕ} (k : ℕ) (s : List ℕ) → k ≤ length s → length s ≤ k + k → a + length s ≤ length t
+    → Writes t t1 a a1 (take k s) → Writes t1 t2 (a + (length s - k)) a2 (take k (drop (length s - k) s)) → Writes t t2 a a2 s
+lapped {t} {t1} {t2} {a} {a1} {a2} k s h g f w v =
+    let j = length s - k in
+    let x = take j s in
+    let y = drop j s in
+    let m = take (k - j) y in
+    let ly : length y ≡ k = length-drop j s ∙ omega arith in
+    let lx : length x ≡ j = length-take-le j s (omega arith) in
+    let whole : x ++ y ≡ s = take-append-drop j s in
+    let size : k ≡ j + (k - j) = omega arith in
+    let front : take k s ≡ x ++ m = ap (λ (n : ℕ). take n s) size ∙ take-add j (k - j) s in
+    let back : take k y ≡ y = take-all k y (omega arith) in
+    let e1 : t1 ≡ written (written t a x) (a + j) m =
+    w .exact ∙ ap (written t a) front ∙ sym (written-behind t a x m (omega arith)) ∙ ap (λ (n : ℕ). written (written t a x) (a + n) m) lx
+    in
+    let e2 : t2 ≡ written t a s =
+    v .exact
+    ∙ (λ i. written (e1 i) (a + j) (back i))
+    ∙ written-again (written t a x) (a + j) m y (omega (arith, length-take (k - j) y))
+    ∙ ap (λ (n : ℕ). written (written t a x) (a + n) y) (sym lx)
+    ∙ written-behind t a x y (omega arith)
+    ∙ ap (written t a) whole
+    in
+    let e3 : a2 ≡ saturated t a s =
+    v .moved ∙ ap (saturated t1 (a + j)) back ∙ saturated-fits t1 (a + j) y (omega (arith, w .wrote .long)) ∙ omega arith ∙ sym (saturated-fits t a s f)
+    in
+    writes e2 e3

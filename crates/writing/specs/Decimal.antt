@@ -18,3 +18,11 @@ decimalWithin (suc divisions) n false = decimalWithin divisions (n / 10) (ltb (n
 -- The digits of n, without leading zeros. Dividing by ten n times is more than enough; `DecimalLaws` has the two equations without such a bound.
 unfoldable pub decimal : ℕ → List ℕ
 decimal n = decimalWithin n n (ltb n 10)
+
+-- The four digits of a number below 10,000, with zeros in front.
+abbrev pub fourDigits : ℕ → List ℕ
+fourDigits n = digit (n / 1000) ∷ digit (n / 100 % 10) ∷ digit (n / 10 % 10) ∷ digit (n % 10) ∷ []
+
+-- The eight digits of a number below 100,000,000, with zeros in front.
+abbrev pub eightDigits : ℕ → List ℕ
+eightDigits n = fourDigits (n / 10000) ++ fourDigits (n % 10000)

@@ -1,10 +1,10 @@
 -- How a string is written. RFC 8259, section 7: "A string begins and ends with quotation marks. All Unicode characters may be placed within the
 -- quotation marks, except for the characters that MUST be escaped: quotation mark, reverse solidus, and the control characters (U+0000 through
 -- U+001F)." Where the section allows more than one way, the shortest is taken, with hexadecimal digits in lower case.
-use mathlib.Core.Bool.{cond}
+use mathlib.Core.Bool.{Bool, true, not, cond, _&&_}
 use mathlib.Core.List.{List, [], _∷_, _++_}
 use Prim.Native.Nat.{ℕ, _+_, _/_, _%_}
-use lib.Dec.{ltb, eqb}
+use lib.Dec.{ltb, leb, eqb}
 
 -- "Alternatively, there are two-character sequence escape representations of some popular characters": what stands after the reverse solidus, and 0
 -- for a character that has none.
@@ -32,6 +32,14 @@ codePointEscape b = 92 ∷ 117 ∷ 48 ∷ 48 ∷ hexDigit (b / 16) ∷ hexDigit 
 -- and those of UTF-8 from 128 on too.
 unfoldable pub escaped : ℕ → List ℕ
 escaped b = cond (ltb 0 (escapeLetter b)) (92 ∷ escapeLetter b ∷ []) (cond (ltb b 32) (codePointEscape b) (b ∷ []))
+
+-- Whether a byte is none of "the characters that MUST be escaped: quotation mark, reverse solidus, and the control characters".
+unfoldable pub isPlain : ℕ → Bool
+isPlain b = leb 32 b && (not (eqb b 34) && not (eqb b 92))
+
+unfoldable pub allPlain : List ℕ → Bool
+allPlain [] = true
+allPlain (b ∷ bs) = isPlain b && allPlain bs
 
 -- The bytes of a string, one after another.
 unfoldable pub escapedAll : List ℕ → List ℕ

@@ -5,7 +5,11 @@ use Rattle.writing.proofs.json.put_code_point_escape.Statement.{stateme
 use Rattle.writing.proofs.json.put_code_point_escape.Tie as tie
 
 returns : tie.Need-returns
-returns c = rw (← (c .before .before .before .before .before .before .before .before .before .before .before .before .before .before .hex-digit .ensures), ← (c .before .before .before .before .before .before .before .before .before .before .before .before .before .hex-digit2 .ensures)) («then» (c .before .before .before .before .before .before .before .before .before .before .put-all .ensures) (cons (c .before .before .before .before .before .before .put .ensures) (c .before .before .put2 .ensures)))
+returns c =
+    let p = c .before .before .before .before .before .before in
+    let q = p .before .before .before .before in
+    rw (← (q .before .before .before .hex-digit .ensures), ← (q .before .before .hex-digit2 .ensures))
+    («then» (q .put-four .ensures) (cons (p .put .ensures) (c .before .before .put2 .ensures)))
 
 pub put-code-point-escape-spec : {M : Type 1} → statement M
 put-code-point-escape-spec =
@@ -13,7 +17,6 @@ put-code-point-escape-spec =
     (tie.spec
     (λ c κs. search needs)
     (λ c κs. search needs)
-    (λ c. search needs)
     (λ c κs. search needs)
     (λ c κs. search needs)
     (λ c κs. search needs)

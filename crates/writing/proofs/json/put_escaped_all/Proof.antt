@@ -1,11 +1,12 @@
--- A string that has one byte more is written with the escape of that byte behind it. Assumes nothing.
+-- A string is written part by part: what a part is escaped to does not depend on the others. Assumes nothing.
 use mathlib.Core.Path.{refl}
 use Prim.Native.Nat.{_-_}
+use native.Mathlib.Omega.{arith}
 use lib.ListN.{length}
 use borrow.Author.Needs.{needs}
-use Rattle.writing.specs.Escape.{escaped, escapedAll}
-use Rattle.writing.proofs.EscapeLaws.{escapedAll-snoc}
-use Rattle.writing.proofs.Putting.{Putting, put-begin, put-again, put-end}
+use Rattle.writing.specs.Escape.{escapedAll}
+use Rattle.writing.proofs.EscapeLaws.{escapedAll-append}
+use Rattle.writing.proofs.Putting.{Putting, put-begin, put-part, put-rest}
 use Rattle.writing.proofs.json.put_escaped_all.Statement.{statement}
 use Rattle.writing.proofs.json.put_escaped_all.Tie as tie
 
@@ -20,10 +21,10 @@ unfolding escapedAll
 loop-holds c = put-begin refl _ _ _
 
 loop-again : tie.Need-loop-again Inv-loop μ-loop
-loop-again c = put-again escaped escapedAll-snoc (c .before .before .before .before .before .before .loop .inv) (c .before .before .before .before .before .loop-test .taken) (c .before .before .put-escaped .ensures)
+loop-again c = put-part escapedAll-append (c .before .before .before .before .before .loop .inv) 16 (omega arith) (c .before .before .put-block-escaped .ensures)
 
 returns : tie.Need-returns Inv-loop μ-loop
-returns c = put-end (c .before .loop .inv) (c .loop-test .left)
+returns c = put-rest escapedAll-append (c .before .before .before .before .before .before .loop .inv) (c .before .before .put-few-escaped .ensures)
 
 pub put-escaped-all-spec : {M : Type 1} → statement M
 put-escaped-all-spec =
@@ -37,5 +38,9 @@ put-escaped-all-spec =
     (λ c. search needs)
     (λ c. search needs)
     loop-again
+    (λ c. search needs)
+    (λ c. search needs)
+    (λ c. search needs)
+    (λ c κs. search needs)
     (λ c. search needs)
     returns)

@@ -5,8 +5,8 @@ use mathlib.Core.List.{List, [], _∷_}
 use Prim.Native.Nat.{ℕ, _-_}
 use lib.ListN.{length}
 use Rattle.writing.proofs.Putting.{Putting, put-begin, put-again, put-end}
-use Rattle.writing.proofs.write.put_all.Statement.{statement}
-use Rattle.writing.proofs.write.put_all.Tie as tie
+use Rattle.writing.proofs.write.put_each.Statement.{statement}
+use Rattle.writing.proofs.write.put_each.Tie as tie
 
 abbrev Inv-loop : tie.InvT-loop
 Inv-loop text₀ at s next₀ i₀ text next i = Putting (λ (l : List ℕ). l) text₀ at s text next i
@@ -23,8 +23,8 @@ loop-again c = put-again (λ (x : ℕ). x ∷ []) (λ xs x. refl) (c .before .be
 returns : tie.Need-returns Inv-loop μ-loop
 returns c = put-end (c .before .loop .inv) (c .loop-test .left)
 
-pub put-all-spec : {M : Type 1} → statement M
-put-all-spec =
+pub put-each-spec : {M : Type 1} → statement M
+put-each-spec =
     tie.close
     (tie.spec
     Inv-loop

@@ -1,0 +1,38 @@
+-- One byte more is plain or not, whatever is behind it. Assumes nothing.
+use mathlib.Core.Path.{_≡_}
+use Prim.Native.Nat.{_-_}
+use lib.ListN.{length, take}
+use Rattle.writing.specs.Escape.{allPlain}
+use Rattle.writing.proofs.Blocks.{plain-none, plain-more, plain-all}
+use borrow.Author.Needs.{needs}
+use Rattle.writing.proofs.json.are_plain.Statement.{statement}
+use Rattle.writing.proofs.json.are_plain.Tie as tie
+
+abbrev Inv-loop : tie.InvT-loop
+Inv-loop s plain₀ i₀ plain i = plain ≡ allPlain (take i s)
+
+abbrev μ-loop : tie.MeasureT-loop
+μ-loop s plain₀ i₀ plain i = length s - i
+
+loop-holds : tie.Need-loop-holds Inv-loop μ-loop
+loop-holds c = search plain-none
+
+loop-again : tie.Need-loop-again Inv-loop μ-loop
+loop-again c = search plain-more
+
+returns : tie.Need-returns Inv-loop μ-loop
+returns c = search plain-all
+
+pub are-plain-spec : {M : Type 1} → statement M
+are-plain-spec =
+    tie.close
+    (tie.spec
+    Inv-loop
+    μ-loop
+    loop-holds
+    (λ c. search needs)
+    (λ c κs. search needs)
+    (λ c. search needs)
+    (λ c. search needs)
+    loop-again
+    returns)

@@ -1,0 +1,38 @@
+-- The bytes that are read are those of the text, in their order. Assumes nothing.
+use mathlib.Core.Path.{refl}
+use Prim.Native.Nat.{_-_}
+use native.Mathlib.Omega.{arith}
+use Rattle.writing.proofs.Blocks.{Reading, read-more, read-all}
+use borrow.Author.Needs.{needs}
+use Rattle.writing.proofs.write.eight_at.Statement.{statement}
+use Rattle.writing.proofs.write.eight_at.Tie as tie
+
+abbrev Inv-loop : tie.InvT-loop
+Inv-loop s from block₀ i₀ block i = Reading 8 s from block i
+
+abbrev μ-loop : tie.MeasureT-loop
+μ-loop s from block₀ i₀ block i = 8 - i
+
+loop-holds : tie.Need-loop-holds Inv-loop μ-loop
+loop-holds c = record { long = refl; within = omega arith; read = refl }
+
+loop-again : tie.Need-loop-again Inv-loop μ-loop
+loop-again c = search read-more
+
+returns : tie.Need-returns Inv-loop μ-loop
+returns c = search read-all
+
+pub eight-at-spec : {M : Type 1} → statement M
+eight-at-spec =
+    tie.close
+    (tie.spec
+    Inv-loop
+    μ-loop
+    loop-holds
+    (λ c. search needs)
+    (λ c. search needs)
+    (λ c. search needs)
+    (λ c. search needs)
+    (λ c. search needs)
+    loop-again
+    returns)
