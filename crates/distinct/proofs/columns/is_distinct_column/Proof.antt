@@ -12,6 +12,4 @@ pub is-distinct-column-spec : {M : Type 1} → statement M
 is-distinct-column-spec =
     tie.close
     (tie.spec
-    (λ c κs. search needs)
-    (λ c κs. search needs)
-    returns)
+    (λ c κs. search needs) (λ c κs. search needs) returns)

@@ -25,12 +25,5 @@ pub is-distinct-since-spec : {M : Type 1} → statement M
 is-distinct-since-spec =
     tie.close
     (tie.spec
-    (λ c. search needs)
-    (λ c. search needs)
-    (λ c. search needs)
-    (λ c. search needs)
-    (λ c. search needs)
-    cast-result
-    returns
-    (λ c κs. search needs)
+    (λ c. search needs) (λ c. search needs) (λ c. search needs) (λ c. search needs) (λ c. search needs) cast-result returns (λ c κs. search needs)
     (λ c. search needs))

@@ -15,8 +15,4 @@ pub rows-to-note-spec : {M : Type 1} → statement M
 rows-to-note-spec =
     tie.close
     (tie.spec
-    (λ c κs. search needs)
-    (λ c. search needs)
-    (λ c. search needs)
-    returns
-    returns-2)
+    (λ c κs. search needs) (λ c. search needs) (λ c. search needs) returns returns-2)

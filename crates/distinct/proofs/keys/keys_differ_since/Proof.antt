@@ -26,13 +26,5 @@ pub keys-differ-since-spec : {M : Type 1} → statement M
 keys-differ-since-spec =
     tie.close
     (tie.spec
-    (λ c κs. search needs)
-    (λ c. search needs)
-    (λ c. search needs)
-    (λ c. search needs)
-    (λ c. search needs)
-    (λ c. search needs)
-    cast-result
-    returns
-    (λ c κs. search needs)
-    (λ c. search needs))
+    (λ c κs. search needs) (λ c. search needs) (λ c. search needs) (λ c. search needs) (λ c. search needs) (λ c. search needs) cast-result returns
+    (λ c κs. search needs) (λ c. search needs))

@@ -19,11 +19,5 @@ pub noted-keys-differ-spec : {M : Type 1} → statement M
 noted-keys-differ-spec =
     tie.close
     (tie.spec
-    (λ c. search needs)
-    (λ c. search needs)
-    (λ c. search needs)
-    (λ c. search needs)
-    note-texts-requires
-    (λ c. search needs)
-    all-keys-differ-since-requires
-    (λ c. search needs))
+    (λ c. search needs) (λ c. search needs) (λ c. search needs) (λ c. search needs) note-texts-requires (λ c. search needs)
+    all-keys-differ-since-requires (λ c. search needs))

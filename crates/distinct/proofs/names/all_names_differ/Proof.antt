@@ -24,13 +24,5 @@ pub all-names-differ-spec : {M : Type 1} → statement M
 all-names-differ-spec =
     tie.close
     (tie.spec
-    (λ c κs. search needs)
-    (λ c. search needs)
-    (λ c. search needs)
-    (λ c. search needs)
-    (λ c. search needs)
-    (λ c. search needs)
-    note-texts-requires
-    (λ c. search needs)
-    (λ c. search needs)
-    returns)
+    (λ c κs. search needs) (λ c. search needs) (λ c. search needs) (λ c. search needs) (λ c. search needs) (λ c. search needs) note-texts-requires
+    (λ c. search needs) (λ c. search needs) returns)

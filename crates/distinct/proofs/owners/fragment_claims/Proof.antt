@@ -33,11 +33,4 @@ pub fragment-claims-spec : {M : Type 1} → statement M
 fragment-claims-spec =
     tie.close
     (tie.spec
-    (λ c κs. search needs)
-    (λ c κs. search needs)
-    returns
-    (λ c. search needs)
-    slice-read-mark
-    slice-write-marks
-    (λ c. search needs)
-    returns-2)
+    (λ c κs. search needs) (λ c κs. search needs) returns (λ c. search needs) slice-read-mark slice-write-marks (λ c. search needs) returns-2)

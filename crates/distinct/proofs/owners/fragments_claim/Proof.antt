@@ -59,15 +59,5 @@ pub fragments-claim-spec : {M : Type 1} → statement M
 fragments-claim-spec =
     tie.close
     (tie.spec
-    Inv-loop
-    μ-loop
-    (λ c κs. search needs)
-    loop-holds
-    (λ c κs. search needs)
-    same-length
-    returns
-    (λ c. search needs)
-    (λ c. search needs)
-    loop-again
-    same-length-2
-    returns-2)
+    Inv-loop μ-loop (λ c κs. search needs) loop-holds (λ c κs. search needs) same-length returns (λ c. search needs) (λ c. search needs) loop-again
+    same-length-2 returns-2)

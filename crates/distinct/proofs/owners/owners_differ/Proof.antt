@@ -29,10 +29,4 @@ pub owners-differ-spec : {M : Type 1} → statement M
 owners-differ-spec =
     tie.close
     (tie.spec
-    (λ c. search needs)
-    (λ c. search needs)
-    selections-claim-requires
-    returns
-    (λ c. search needs)
-    fragments-claim-requires
-    returns-2)
+    (λ c. search needs) (λ c. search needs) selections-claim-requires returns (λ c. search needs) fragments-claim-requires returns-2)

@@ -38,14 +38,5 @@ pub selection-claims-spec : {M : Type 1} → statement M
 selection-claims-spec =
     tie.close
     (tie.spec
-    (λ c κs. search needs)
-    (λ c. search needs)
-    (λ c. search needs)
-    returns
-    (λ c κs. search needs)
-    returns-2
-    (λ c. search needs)
-    slice-read-mark
-    slice-write-marks
-    (λ c. search needs)
-    returns-3)
+    (λ c κs. search needs) (λ c. search needs) (λ c. search needs) returns (λ c κs. search needs) returns-2 (λ c. search needs) slice-read-mark
+    slice-write-marks (λ c. search needs) returns-3)

@@ -63,15 +63,5 @@ pub selections-claim-spec : {M : Type 1} → statement M
 selections-claim-spec =
     tie.close
     (tie.spec
-    Inv-loop
-    μ-loop
-    (λ c κs. search needs)
-    loop-holds
-    (λ c κs. search needs)
-    same-length
-    returns
-    (λ c. search needs)
-    (λ c. search needs)
-    loop-again
-    same-length-2
-    returns-2)
+    Inv-loop μ-loop (λ c κs. search needs) loop-holds (λ c κs. search needs) same-length returns (λ c. search needs) (λ c. search needs) loop-again
+    same-length-2 returns-2)

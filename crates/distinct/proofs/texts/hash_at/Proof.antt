@@ -12,7 +12,4 @@ pub hash-at-spec : {M : Type 1} → statement M
 hash-at-spec =
     tie.close
     (tie.spec
-    (λ c κs. search needs)
-    (λ c κs. search needs)
-    (λ c κs. search needs)
-    returns)
+    (λ c κs. search needs) (λ c κs. search needs) (λ c κs. search needs) returns)

@@ -70,29 +70,7 @@ pub note-text-spec : {M : Type 1} → statement M
 note-text-spec =
     tie.close
     (tie.spec
-    (λ c κs. search needs)
-    (λ c. search needs)
-    (λ c. search needs)
-    slice-read-head
-    (λ c. search needs)
-    slice-read-from
-    cast-from
-    (λ c. search needs)
-    slice-write-hashes
-    cast-after-last-same
-    after-last-same-requires
-    (λ c. search needs)
-    (λ c. search needs)
-    (λ c. search needs)
-    slice-write-heads
-    (λ c. search needs)
-    (λ c. search needs)
-    cast-since
-    (λ c. search needs)
-    (λ c. search needs)
-    slice-write-since
-    (λ c. search needs)
-    (λ c. search needs)
-    (λ c. search needs)
-    (λ c. search needs)
-    returns)
+    (λ c κs. search needs) (λ c. search needs) (λ c. search needs) slice-read-head (λ c. search needs) slice-read-from cast-from (λ c. search needs)
+    slice-write-hashes cast-after-last-same after-last-same-requires (λ c. search needs) (λ c. search needs) (λ c. search needs) slice-write-heads
+    (λ c. search needs) (λ c. search needs) cast-since (λ c. search needs) (λ c. search needs) slice-write-since (λ c. search needs)
+    (λ c. search needs) (λ c. search needs) (λ c. search needs) returns)

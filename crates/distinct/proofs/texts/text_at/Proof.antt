@@ -12,7 +12,4 @@ pub text-at-spec : {M : Type 1} → statement M
 text-at-spec =
     tie.close
     (tie.spec
-    (λ c κs. search needs)
-    (λ c. search needs)
-    (λ c κs. search needs)
-    returns)
+    (λ c κs. search needs) (λ c. search needs) (λ c κs. search needs) returns)

@@ -39,12 +39,4 @@ pub answer-spec : {M : Type 1} → statement M
 answer-spec =
     tie.close
     (tie.spec
-    enum-told
-    code-requires
-    enum-known-checked
-    code-requires-2
-    enum-known-checked-2
-    code-requires-3
-    returns
-    returns-2
-    returns-3)
+    enum-told code-requires enum-known-checked code-requires-2 enum-known-checked-2 code-requires-3 returns returns-2 returns-3)

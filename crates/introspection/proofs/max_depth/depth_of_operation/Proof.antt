@@ -11,7 +11,4 @@ pub depth-of-operation-spec : {M : Type 1} → statement M
 depth-of-operation-spec =
     tie.close
     (tie.spec
-    (λ c. search needs)
-    (λ c κs. search needs)
-    (λ c κs. search needs)
-    returns)
+    (λ c. search needs) (λ c κs. search needs) (λ c κs. search needs) returns)

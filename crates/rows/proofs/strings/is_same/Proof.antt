@@ -11,10 +11,4 @@ pub is-same-spec : {M : Type 1} → statement M
 is-same-spec =
     tie.close
     (tie.spec
-    returns
-    (λ c κs. search needs)
-    (λ c. search needs)
-    (λ c κs. search needs)
-    (λ c. search needs)
-    (λ c κs. search needs)
-    (λ c. search needs))
+    returns (λ c κs. search needs) (λ c. search needs) (λ c κs. search needs) (λ c. search needs) (λ c κs. search needs) (λ c. search needs))

@@ -10,7 +10,4 @@ pub selection-is-lawful-spec : {M : Type 1} → statement M
 selection-is-lawful-spec =
     tie.close
     (tie.spec
-    (λ c κs. search needs)
-    (λ c κs. search needs)
-    (λ c κs. search needs)
-    returns)
+    (λ c κs. search needs) (λ c κs. search needs) (λ c κs. search needs) returns)

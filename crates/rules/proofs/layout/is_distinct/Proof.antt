@@ -38,13 +38,4 @@ pub is-distinct-spec : {M : Type 1} → statement M
 is-distinct-spec =
     tie.close
     (tie.spec
-    Inv-loop
-    μ-loop
-    loop-holds
-    (λ c. search needs)
-    is-new-by-marks-requires
-    returns
-    (λ c. search needs)
-    (λ c. search needs)
-    loop-again
-    returns-2)
+    Inv-loop μ-loop loop-holds (λ c. search needs) is-new-by-marks-requires returns (λ c. search needs) (λ c. search needs) loop-again returns-2)

@@ -12,8 +12,4 @@ pub is-reserved-as-spec : {M : Type 1} → statement M
 is-reserved-as-spec =
     tie.close
     (tie.spec
-    (λ c κs. search needs)
-    (λ c. search needs)
-    (λ c κs. search needs)
-    (λ c. search needs)
-    returns-3)
+    (λ c κs. search needs) (λ c. search needs) (λ c κs. search needs) (λ c. search needs) returns-3)

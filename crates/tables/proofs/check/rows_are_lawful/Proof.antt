@@ -43,16 +43,5 @@ pub rows-are-lawful-spec : {M : Type 1} → statement M
 rows-are-lawful-spec =
     tie.close
     (tie.spec
-    (λ c κs. search needs)
-    (λ c κs. search needs)
-    (λ c κs. search needs)
-    returns
-    (λ c κs. search needs)
-    (λ c κs. search needs)
-    (λ c κs. search needs)
-    schema-is-lawful-requires
-    returns-2
-    document-is-lawful-requires
-    returns-3
-    (λ c κs. search needs)
-    returns-4)
+    (λ c κs. search needs) (λ c κs. search needs) (λ c κs. search needs) returns (λ c κs. search needs) (λ c κs. search needs) (λ c κs. search needs)
+    schema-is-lawful-requires returns-2 document-is-lawful-requires returns-3 (λ c κs. search needs) returns-4)

@@ -78,23 +78,6 @@ pub children-are-larger-spec : {M : Type 1} → statement M
 children-are-larger-spec =
     tie.close
     (tie.spec
-    Inv-loop
-    μ-loop
-    (λ c. search needs)
-    (λ c. search needs)
-    (λ c. search needs)
-    first-unlooked-requires
-    loop-holds
-    child-is-larger-requires
-    same-length
-    returns
-    add-skips
-    cast-skips
-    mul-skips
-    slice-write-skips
-    add-first-unlooked
-    first-unlooked-requires-2
-    loop-less
-    loop-again
-    same-length-2
-    returns-2)
+    Inv-loop μ-loop (λ c. search needs) (λ c. search needs) (λ c. search needs) first-unlooked-requires loop-holds child-is-larger-requires
+    same-length returns add-skips cast-skips mul-skips slice-write-skips add-first-unlooked first-unlooked-requires-2 loop-less loop-again
+    same-length-2 returns-2)

@@ -64,15 +64,5 @@ pub each-set-holds-spec : {M : Type 1} → statement M
 each-set-holds-spec =
     tie.close
     (tie.spec
-    Inv-loop
-    μ-loop
-    (λ c κs. search needs)
-    (λ c κs. search needs)
-    loop-holds
-    (λ c. search needs)
-    slice-aggregate-set-holds
-    set-holds-requires
-    returns
-    (λ c. search needs)
-    loop-again
-    returns-2)
+    Inv-loop μ-loop (λ c κs. search needs) (λ c κs. search needs) loop-holds (λ c. search needs) slice-aggregate-set-holds set-holds-requires returns
+    (λ c. search needs) loop-again returns-2)

@@ -76,21 +76,5 @@ pub first-unlooked-spec : {M : Type 1} → statement M
 first-unlooked-spec =
     tie.close
     (tie.spec
-    Inv-loop
-    μ-loop
-    loop-holds
-    mul-if1
-    slice-read-if1
-    mul-next
-    slice-read-next
-    cast-next
-    mul-further
-    slice-read-further
-    mul-skips
-    slice-write-skips
-    loop-less
-    loop-again
-    loop-less-2
-    loop-again-2
-    same-length
-    returns)
+    Inv-loop μ-loop loop-holds mul-if1 slice-read-if1 mul-next slice-read-next cast-next mul-further slice-read-further mul-skips slice-write-skips
+    loop-less loop-again loop-less-2 loop-again-2 same-length returns)

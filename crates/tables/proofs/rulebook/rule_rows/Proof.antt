@@ -41,14 +41,5 @@ pub rule-rows-spec : {M : Type 1} → statement M
 rule-rows-spec =
     tie.close
     (tie.spec
-    enum-told
-    enum-known-rule
-    schema-rows-requires
-    enum-known-rule-2
-    document-rows-requires
-    enum-known-rule-3
-    value-rows-requires
-    returns
-    returns-2
-    returns-3
-    returns-4)
+    enum-told enum-known-rule schema-rows-requires enum-known-rule-2 document-rows-requires enum-known-rule-3 value-rows-requires returns returns-2
+    returns-3 returns-4)

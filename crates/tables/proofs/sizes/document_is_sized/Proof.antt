@@ -24,8 +24,4 @@ pub document-is-sized-spec : {M : Type 1} → statement M
 document-is-sized-spec =
     tie.close
     (tie.spec
-    is-counted-requires
-    is-counted-requires-2
-    is-counted-requires-3
-    is-counted-requires-4
-    returns)
+    is-counted-requires is-counted-requires-2 is-counted-requires-3 is-counted-requires-4 returns)

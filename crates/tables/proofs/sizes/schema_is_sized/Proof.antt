@@ -27,9 +27,4 @@ pub schema-is-sized-spec : {M : Type 1} → statement M
 schema-is-sized-spec =
     tie.close
     (tie.spec
-    is-counted-requires
-    is-counted-requires-2
-    is-counted-requires-3
-    is-counted-requires-4
-    is-counted-requires-5
-    returns)
+    is-counted-requires is-counted-requires-2 is-counted-requires-3 is-counted-requires-4 is-counted-requires-5 returns)

@@ -41,13 +41,4 @@ pub each-literal-holds-spec : {M : Type 1} → statement M
 each-literal-holds-spec =
     tie.close
     (tie.spec
-    Inv-loop
-    μ-loop
-    (λ c κs. search needs)
-    loop-holds
-    literal-holds-requires
-    returns
-    (λ c. search needs)
-    (λ c. search needs)
-    loop-again
-    returns-2)
+    Inv-loop μ-loop (λ c κs. search needs) loop-holds literal-holds-requires returns (λ c. search needs) (λ c. search needs) loop-again returns-2)

@@ -54,19 +54,5 @@ pub values-are-lawful-spec : {M : Type 1} → statement M
 values-are-lawful-spec =
     tie.close
     (tie.spec
-    (λ c κs. search needs)
-    (λ c κs. search needs)
-    each-node-holds-requires
-    returns
-    (λ c κs. search needs)
-    returns-2
-    literals-hold-requires
-    returns-3
-    (λ c κs. search needs)
-    returns-4
-    (λ c κs. search needs)
-    returns-5
-    (λ c κs. search needs)
-    returns-6
-    (λ c κs. search needs)
-    returns-7)
+    (λ c κs. search needs) (λ c κs. search needs) each-node-holds-requires returns (λ c κs. search needs) returns-2 literals-hold-requires returns-3
+    (λ c κs. search needs) returns-4 (λ c κs. search needs) returns-5 (λ c κs. search needs) returns-6 (λ c κs. search needs) returns-7)

@@ -17,9 +17,4 @@ pub find-frac-spec : {M : Type 1} → statement M
 find-frac-spec =
     tie.close
     (tie.spec
-    returns
-    (λ c. search needs)
-    (λ c. search needs)
-    (λ c κs. search needs)
-    returns-2
-    returns-3)
+    returns (λ c. search needs) (λ c. search needs) (λ c κs. search needs) returns-2 returns-3)

@@ -13,12 +13,5 @@ pub decode-spec : {M : Type 1} → statement M
 decode-spec =
     tie.close
     (tie.spec
-    (λ c. search needs)
-    (λ c κs. search needs)
-    (λ c κs. search (leads-as, needs))
-    (λ c κs. search (leads-as, needs))
-    (λ c κs. search (leads-as, needs))
-    (λ c. search needs)
-    (λ c. search needs)
-    (λ c. search needs)
-    returns-4)
+    (λ c. search needs) (λ c κs. search needs) (λ c κs. search (leads-as, needs)) (λ c κs. search (leads-as, needs))
+    (λ c κs. search (leads-as, needs)) (λ c. search needs) (λ c. search needs) (λ c. search needs) returns-4)

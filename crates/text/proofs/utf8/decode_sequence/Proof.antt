@@ -39,22 +39,6 @@ pub decode-sequence-spec : {M : Type 1} → statement M
 decode-sequence-spec =
     tie.close
     (tie.spec
-    Inv-loop
-    μ-loop
-    (λ c. search needs)
-    returns
-    (λ c. search needs)
-    (λ c. search needs)
-    lead-bits-requires
-    (λ c. search needs)
-    loop-holds
-    (λ c. search needs)
-    (λ c κs. search needs)
-    returns-2
-    with-tail-requires
-    (λ c. search needs)
-    (λ c. search needs)
-    loop-again
-    (λ c κs. search needs)
-    returns-3
-    returns-4)
+    Inv-loop μ-loop (λ c. search needs) returns (λ c. search needs) (λ c. search needs) lead-bits-requires (λ c. search needs) loop-holds
+    (λ c. search needs) (λ c κs. search needs) returns-2 with-tail-requires (λ c. search needs) (λ c. search needs) loop-again (λ c κs. search needs)
+    returns-3 returns-4)
