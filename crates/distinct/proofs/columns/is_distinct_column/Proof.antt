@@ -9,7 +9,4 @@ unfolding distinct
 returns c = rw (c .is-distinct .ensures, c .before .row-count .ensures)
 
 pub is-distinct-column-spec : {M : Type 1} → statement M
-is-distinct-column-spec =
-    tie.close
-    (tie.spec
-    (λ c κs. search needs) (λ c κs. search needs) returns)
+is-distinct-column-spec = tie.close (tie.spec (λ c κs. search needs) (λ c κs. search needs) returns)

@@ -35,12 +35,6 @@ same-length c =
     let passed = c .before .before .before .before .before .before .before .args in
     turn .inv .1 ∙ length-set (passed .since .now) 0 0
 
-returns : tie.Need-returns Inv-loop μ-loop
-returns c = (omega (arith, simp length-set at (c .before .before .before .loop .inv .1)), c .before .before .before .loop .inv .3)
-
-slice-write-since-2 : tie.Need-slice-write-since-2 Inv-loop μ-loop
-slice-write-since-2 c = omega (arith, simp length-set at (c .before .before .before .before .loop .inv .1))
-
 loop-again : tie.Need-loop-again Inv-loop μ-loop
 loop-again c =
     let turn = c .before .before .before .before .loop in
@@ -57,16 +51,13 @@ loop-again c =
       sym (getD-set-same (turn .since) (turn .row + 1) (c .later .result) 0 room),
     )
 
-same-length-2 : tie.Need-same-length-2 Inv-loop μ-loop
-same-length-2 c = c .before .loop .inv .1 ∙ length-set (c .before .before .before .before .before .args .since .now) 0 0
-
-returns-2 : tie.Need-returns-2 Inv-loop μ-loop
-returns-2 c = (omega (arith, simp length-set at (c .before .loop .inv .1)), c .before .loop .inv .3)
-
 pub note-since-spec : {M : Type 1} → statement M
 note-since-spec =
     tie.close
     (tie.spec
-    Inv-loop μ-loop (λ c κs. search needs) (λ c. search needs) loop-holds (λ c κs. search needs) (λ c. search needs) same-length returns
-    (λ c. search needs) (λ c. search needs) (λ c. search needs) (λ c. search needs) (λ c. search needs) (λ c. search needs) (λ c κs. search needs)
-    (λ c. search needs) (λ c. search needs) slice-write-since-2 (λ c. search needs) (λ c. search needs) loop-again same-length-2 returns-2)
+    Inv-loop μ-loop (λ c κs. search needs) (λ c. search needs) loop-holds (λ c κs. search needs) (λ c. search needs) same-length
+    (λ c. (omega (arith, simp length-set at (c .before .before .before .loop .inv .1)), c .before .before .before .loop .inv .3)) (λ c. search needs)
+    (λ c. search needs) (λ c. search needs) (λ c. search needs) (λ c. search needs) (λ c. search needs) (λ c κs. search needs) (λ c. search needs)
+    (λ c. search needs) (λ c. omega (arith, simp length-set at (c .before .before .before .before .loop .inv .1))) (λ c. search needs)
+    (λ c. search needs) loop-again (λ c. c .before .loop .inv .1 ∙ length-set (c .before .before .before .before .before .args .since .now) 0 0)
+    (λ c. (omega (arith, simp length-set at (c .before .loop .inv .1)), c .before .loop .inv .3)))

@@ -5,14 +5,9 @@ use borrow.Author.Needs.{needs}
 use Rattle.distinct.proofs.columns.rows_to_note.Statement.{statement}
 use Rattle.distinct.proofs.columns.rows_to_note.Tie as tie
 
-returns : tie.Need-returns
-returns c = ⊎-elim (λ w. omega arith) (λ w. omega arith) (c .before .if1 .came)
-
-returns-2 : tie.Need-returns-2
-returns-2 c = ⊎-elim (λ w. omega arith) (λ w. omega arith) (c .before .if1 .came)
-
 pub rows-to-note-spec : {M : Type 1} → statement M
 rows-to-note-spec =
     tie.close
     (tie.spec
-    (λ c κs. search needs) (λ c. search needs) (λ c. search needs) returns returns-2)
+    (λ c κs. search needs) (λ c. search needs) (λ c. search needs) (λ c. ⊎-elim (λ w. omega arith) (λ w. omega arith) (c .before .if1 .came))
+    (λ c. ⊎-elim (λ w. omega arith) (λ w. omega arith) (c .before .if1 .came)))

@@ -5,11 +5,6 @@ use borrow.Author.Needs.{needs}
 use Rattle.distinct.proofs.hash.byte_at.Statement.{statement}
 use Rattle.distinct.proofs.hash.byte_at.Tie as tie
 
-returns-2 : tie.Need-returns-2
-returns-2 c = sym (List·getD-eq-default (c .before .args .bytes .now) 0 (c .if1 .left))
-
 pub byte-at-spec : {M : Type 1} → statement M
 byte-at-spec =
-    tie.close
-    (tie.spec
-    (λ c. search needs) (λ c. search needs) returns-2)
+    tie.close (tie.spec (λ c. search needs) (λ c. search needs) (λ c. sym (List·getD-eq-default (c .before .args .bytes .now) 0 (c .if1 .left))))

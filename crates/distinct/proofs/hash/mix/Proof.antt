@@ -9,7 +9,4 @@ unfolding mixed
 returns c = search needs
 
 pub mix-spec : {M : Type 1} → statement M
-mix-spec =
-    tie.close
-    (tie.spec
-    (λ c. search needs) (λ c. search needs) (λ c. search needs) (λ c. search needs) returns)
+mix-spec = tie.close (tie.spec (λ c. search needs) (λ c. search needs) (λ c. search needs) (λ c. search needs) returns)

@@ -15,9 +15,6 @@ Inv-loop pool nodes since known rows row₀ row = (row ≤ rows) × (all (nodeKe
 abbrev μ-loop : tie.MeasureT-loop
 μ-loop pool nodes since known rows row₀ row = rows - row
 
-loop-holds : tie.Need-loop-holds Inv-loop μ-loop
-loop-holds c = (search needs, all-none _)
-
 returns : tie.Need-returns Inv-loop μ-loop
 returns c =
     let row-count = c .before .before .before .before .row-count in
@@ -43,4 +40,5 @@ pub all-keys-differ-since-spec : {M : Type 1} → statement M
 all-keys-differ-since-spec =
     tie.close
     (tie.spec
-    Inv-loop μ-loop (λ c κs. search needs) loop-holds (λ c κs. search needs) returns (λ c. search needs) (λ c. search needs) loop-again returns-2)
+    Inv-loop μ-loop (λ c κs. search needs) (λ c. (search needs, all-none _)) (λ c κs. search needs) returns (λ c. search needs) (λ c. search needs)
+    loop-again returns-2)

@@ -11,6 +11,4 @@ returns c =
 
 pub all-node-keys-differ-spec : {M : Type 1} → statement M
 all-node-keys-differ-spec =
-    tie.close
-    (tie.spec
-    (λ c κs. search needs) (λ c κs. search needs) returns (λ c. search needs) (λ c κs. search needs) (λ c. search needs))
+    tie.close (tie.spec (λ c κs. search needs) (λ c κs. search needs) returns (λ c. search needs) (λ c κs. search needs) (λ c. search needs))

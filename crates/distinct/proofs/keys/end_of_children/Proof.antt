@@ -17,9 +17,6 @@ Inv-loop nodes rows end₀ row₀ end row = (row ≤ rows) × (end ≤ 4096) × 
 abbrev μ-loop : tie.MeasureT-loop
 μ-loop nodes rows end₀ row₀ end row = rows - row
 
-loop-holds : tie.Need-loop-holds Inv-loop μ-loop
-loop-holds c = (search needs, search needs, λ e. all-none _)
-
 loop-again : tie.Need-loop-again Inv-loop μ-loop
 loop-again c =
     let turn = c .before .before .before .loop in
@@ -39,4 +36,5 @@ pub end-of-children-spec : {M : Type 1} → statement M
 end-of-children-spec =
     tie.close
     (tie.spec
-    Inv-loop μ-loop loop-holds (λ c κs. search needs) (λ c κs. search needs) (λ c. search needs) (λ c. search needs) loop-again returns)
+    Inv-loop μ-loop (λ c. (search needs, search needs, λ e. all-none _)) (λ c κs. search needs) (λ c κs. search needs) (λ c. search needs)
+    (λ c. search needs) loop-again returns)

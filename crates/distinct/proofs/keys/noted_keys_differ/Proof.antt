@@ -8,9 +8,6 @@ use borrow.Author.Needs.{needs}
 use Rattle.distinct.proofs.keys.noted_keys_differ.Statement.{statement}
 use Rattle.distinct.proofs.keys.noted_keys_differ.Tie as tie
 
-note-texts-requires : tie.Need-note-texts-requires
-note-texts-requires c κs = ((search needs, search needs, search needs, omega arith), kept-none _ _ _ _ 4096 4097 refl)
-
 all-keys-differ-since-requires : tie.Need-all-keys-differ-since-requires
 unfolding nodeKey textAt
 all-keys-differ-since-requires c κs = (omega arith, c .before .before .before .before .before .note-texts .ensures .told)
@@ -19,5 +16,6 @@ pub noted-keys-differ-spec : {M : Type 1} → statement M
 noted-keys-differ-spec =
     tie.close
     (tie.spec
-    (λ c. search needs) (λ c. search needs) (λ c. search needs) (λ c. search needs) note-texts-requires (λ c. search needs)
+    (λ c. search needs) (λ c. search needs) (λ c. search needs) (λ c. search needs)
+    (λ c κs. ((search needs, search needs, search needs, omega arith), kept-none _ _ _ _ 4096 4097 refl)) (λ c. search needs)
     all-keys-differ-since-requires (λ c. search needs))

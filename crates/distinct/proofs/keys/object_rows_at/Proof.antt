@@ -14,7 +14,4 @@ unfolding nodeAt
 returns-2 c = rw (← (c .before .before .before .cell .ensures), c .before .before .if1 .left, c .cell3 .ensures, c .before .cell2 .ensures)
 
 pub object-rows-at-spec : {M : Type 1} → statement M
-object-rows-at-spec =
-    tie.close
-    (tie.spec
-    (λ c κs. search needs) returns (λ c κs. search needs) (λ c κs. search needs) returns-2)
+object-rows-at-spec = tie.close (tie.spec (λ c κs. search needs) returns (λ c κs. search needs) (λ c κs. search needs) returns-2)

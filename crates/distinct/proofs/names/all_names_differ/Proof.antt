@@ -10,9 +10,6 @@ use borrow.Author.Needs.{needs}
 use Rattle.distinct.proofs.names.all_names_differ.Statement.{statement}
 use Rattle.distinct.proofs.names.all_names_differ.Tie as tie
 
-note-texts-requires : tie.Need-note-texts-requires
-note-texts-requires c κs = ((search needs, search needs, omega arith, omega arith), kept-none _ _ _ _ 512 513 refl)
-
 returns : tie.Need-returns
 unfolding nameNew nameAt textAt
 returns c =
@@ -24,5 +21,5 @@ pub all-names-differ-spec : {M : Type 1} → statement M
 all-names-differ-spec =
     tie.close
     (tie.spec
-    (λ c κs. search needs) (λ c. search needs) (λ c. search needs) (λ c. search needs) (λ c. search needs) (λ c. search needs) note-texts-requires
-    (λ c. search needs) (λ c. search needs) returns)
+    (λ c κs. search needs) (λ c. search needs) (λ c. search needs) (λ c. search needs) (λ c. search needs) (λ c. search needs)
+    (λ c κs. ((search needs, search needs, omega arith, omega arith), kept-none _ _ _ _ 512 513 refl)) (λ c. search needs) (λ c. search needs) returns)

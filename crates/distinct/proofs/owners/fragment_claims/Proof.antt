@@ -12,12 +12,6 @@ returns c =
     let branch = c .before .if1 in
     (c .fragment-owns-alone .ensures, fragment-past _ _ _ _ asked (rw (fragment-at .ensures) at (branch .taken)))
 
-slice-read-mark : tie.Need-slice-read-mark
-slice-read-mark c = omega (arith, c .before .before .before .before .before .before .pre .sized)
-
-slice-write-marks : tie.Need-slice-write-marks
-slice-write-marks c = omega (arith, c .before .before .before .before .before .before .pre .sized)
-
 returns-2 : tie.Need-returns-2
 returns-2 c =
     let fragment-at = c .before .before .fragment-at in
@@ -33,4 +27,6 @@ pub fragment-claims-spec : {M : Type 1} → statement M
 fragment-claims-spec =
     tie.close
     (tie.spec
-    (λ c κs. search needs) (λ c κs. search needs) returns (λ c. search needs) slice-read-mark slice-write-marks (λ c. search needs) returns-2)
+    (λ c κs. search needs) (λ c κs. search needs) returns (λ c. search needs)
+    (λ c. omega (arith, c .before .before .before .before .before .before .pre .sized))
+    (λ c. omega (arith, c .before .before .before .before .before .before .pre .sized)) (λ c. search needs) returns-2)

@@ -6,12 +6,6 @@ use borrow.Author.Needs.{needs}
 use Rattle.distinct.proofs.owners.owners_differ.Statement.{statement}
 use Rattle.distinct.proofs.owners.owners_differ.Tie as tie
 
-selections-claim-requires : tie.Need-selections-claim-requires
-selections-claim-requires c κs = selections-first _
-
-returns : tie.Need-returns
-returns c = rw (falsified (c .before .before .selections-claim .result) _ (c .before .before .selections-claim .ensures .0) (c .if1 .taken))
-
 fragments-claim-requires : tie.Need-fragments-claim-requires
 fragments-claim-requires c κs =
     let selections-claim = c .before .before .before .selections-claim in
@@ -29,4 +23,6 @@ pub owners-differ-spec : {M : Type 1} → statement M
 owners-differ-spec =
     tie.close
     (tie.spec
-    (λ c. search needs) (λ c. search needs) selections-claim-requires returns (λ c. search needs) fragments-claim-requires returns-2)
+    (λ c. search needs) (λ c. search needs) (λ c κs. selections-first _)
+    (λ c. rw (falsified (c .before .before .selections-claim .result) _ (c .before .before .selections-claim .ensures .0) (c .if1 .taken)))
+    (λ c. search needs) fragments-claim-requires returns-2)

@@ -19,12 +19,6 @@ returns-2 c =
     let branch = c .before .if1 in
     (c .selection-owns-alone .ensures, selection-past _ _ _ asked _ (sym (owned-set .ensures) ∙ owned .given .1) (branch .taken))
 
-slice-read-mark : tie.Need-slice-read-mark
-slice-read-mark c = omega (arith, c .before .before .before .before .before .before .before .before .pre .sized)
-
-slice-write-marks : tie.Need-slice-write-marks
-slice-write-marks c = omega (arith, c .before .before .before .before .before .before .before .before .pre .sized)
-
 returns-3 : tie.Need-returns-3
 returns-3 c =
     let owned-set = c .before .before .before .before .before .owned-set in
@@ -38,5 +32,6 @@ pub selection-claims-spec : {M : Type 1} → statement M
 selection-claims-spec =
     tie.close
     (tie.spec
-    (λ c κs. search needs) (λ c. search needs) (λ c. search needs) returns (λ c κs. search needs) returns-2 (λ c. search needs) slice-read-mark
-    slice-write-marks (λ c. search needs) returns-3)
+    (λ c κs. search needs) (λ c. search needs) (λ c. search needs) returns (λ c κs. search needs) returns-2 (λ c. search needs)
+    (λ c. omega (arith, c .before .before .before .before .before .before .before .before .pre .sized))
+    (λ c. omega (arith, c .before .before .before .before .before .before .before .before .pre .sized)) (λ c. search needs) returns-3)

@@ -20,9 +20,6 @@ Inv-loop selections marks₀ rows row₀ marks row =
 abbrev μ-loop : tie.MeasureT-loop
 μ-loop selections marks₀ rows row₀ marks row = rows - row
 
-loop-holds : tie.Need-loop-holds Inv-loop μ-loop
-loop-holds c = (search needs, all-none _, c .before .before .before .pre)
-
 same-length : tie.Need-same-length Inv-loop μ-loop
 same-length c =
     let selection-claims = c .before .before .before .selection-claims in
@@ -49,9 +46,6 @@ loop-again c =
       selection-claims .ensures .1,
     )
 
-same-length-2 : tie.Need-same-length-2 Inv-loop μ-loop
-same-length-2 c = c .before .loop .inv .2 .sized ∙ sym (c .before .before .before .before .before .pre .sized)
-
 returns-2 : tie.Need-returns-2 Inv-loop μ-loop
 returns-2 c =
     let turn = c .before .loop in
@@ -63,5 +57,6 @@ pub selections-claim-spec : {M : Type 1} → statement M
 selections-claim-spec =
     tie.close
     (tie.spec
-    Inv-loop μ-loop (λ c κs. search needs) loop-holds (λ c κs. search needs) same-length returns (λ c. search needs) (λ c. search needs) loop-again
-    same-length-2 returns-2)
+    Inv-loop μ-loop (λ c κs. search needs) (λ c. (search needs, all-none _, c .before .before .before .pre)) (λ c κs. search needs) same-length
+    returns (λ c. search needs) (λ c. search needs) loop-again
+    (λ c. c .before .loop .inv .2 .sized ∙ sym (c .before .before .before .before .before .pre .sized)) returns-2)

@@ -22,9 +22,6 @@ returns c =
     cursor-found _ _ (chain-other _ _ _ _) _ _ _ (c .before .before .before .loop .inv) (c .before .before .loop-test .taken)
     (falsified (c .before .is-other .result) _ (c .before .is-other .ensures) (c .if1 .taken))
 
-cast-cursor : tie.Need-cast-cursor Inv-loop μ-loop
-cast-cursor c = omega (arith, c .shared-slice-known5 .given (c .before .before .before .before .loop .cursor - 1))
-
 loop-less : tie.Need-loop-less Inv-loop μ-loop
 loop-less c =
     let asked = c .before .before .before .before .before .before .before .before .before .pre in
@@ -41,12 +38,10 @@ loop-again c =
     (verified (is-other .result) _ (is-other .ensures) (branch .left))
     (asked .1 .1 .0 .linked (turn .cursor - 1) (omega arith))
 
-returns-2 : tie.Need-returns-2 Inv-loop μ-loop
-returns-2 c = cursor-end _ _ (chain-other _ _ _ _) _ _ _ (c .before .loop .inv) (c .loop-test .left) (omega arith)
-
 pub after-last-same-spec : {M : Type 1} → statement M
 after-last-same-spec =
     tie.close
     (tie.spec
     Inv-loop μ-loop (λ c. search needs) (λ c. search needs) (λ c κs. search needs) returns (λ c. search needs) (λ c. search needs) (λ c. search needs)
-    cast-cursor loop-less loop-again returns-2)
+    (λ c. omega (arith, c .shared-slice-known5 .given (c .before .before .before .before .loop .cursor - 1))) loop-less loop-again
+    (λ c. cursor-end _ _ (chain-other _ _ _ _) _ _ _ (c .before .loop .inv) (c .loop-test .left) (omega arith)))

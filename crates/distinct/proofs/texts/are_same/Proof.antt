@@ -5,14 +5,9 @@ use borrow.Author.Needs.{needs}
 use Rattle.distinct.proofs.texts.are_same.Statement.{statement}
 use Rattle.distinct.proofs.texts.are_same.Tie as tie
 
-returns : tie.Need-returns
-returns c = rw (c .before .before .before .if1 .taken, c .if2 .taken) (sym (same-self _))
-
-returns-2 : tie.Need-returns-2
-returns-2 c = rw (c .is-same .ensures, c .before .text-of2 .ensures, c .before .before .text-of .ensures)
-
 pub are-same-spec : {M : Type 1} → statement M
 are-same-spec =
     tie.close
     (tie.spec
-    returns (λ c κs. search needs) (λ c κs. search needs) (λ c κs. search needs) returns-2)
+    (λ c. rw (c .before .before .before .if1 .taken, c .if2 .taken) (sym (same-self _))) (λ c κs. search needs) (λ c κs. search needs)
+    (λ c κs. search needs) (λ c. rw (c .is-same .ensures, c .before .text-of2 .ensures, c .before .before .text-of .ensures)))

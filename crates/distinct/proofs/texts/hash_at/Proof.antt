@@ -9,7 +9,4 @@ unfolding textHash
 returns c = rw (c .hash-of .ensures, c .before .text-of .ensures, c .before .before .text-at .ensures)
 
 pub hash-at-spec : {M : Type 1} → statement M
-hash-at-spec =
-    tie.close
-    (tie.spec
-    (λ c κs. search needs) (λ c κs. search needs) (λ c κs. search needs) returns)
+hash-at-spec = tie.close (tie.spec (λ c κs. search needs) (λ c κs. search needs) (λ c κs. search needs) returns)

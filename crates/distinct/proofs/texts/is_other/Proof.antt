@@ -10,12 +10,9 @@ returns c =
     let asked = c .before .before .before .before .before .before .pre in
     hashed-other _ _ _ _ _ _ _ _ (asked .1) (omega arith) (omega arith) (c .if1 .taken)
 
-returns-2 : tie.Need-returns-2
-returns-2 c = rw (c .are-same .ensures, c .before .text-at2 .ensures, c .before .before .text-at .ensures)
-
 pub is-other-spec : {M : Type 1} → statement M
 is-other-spec =
     tie.close
     (tie.spec
     (λ c. search needs) (λ c. search needs) (λ c. search needs) (λ c. search needs) returns (λ c κs. search needs) (λ c κs. search needs)
-    (λ c κs. search needs) returns-2)
+    (λ c κs. search needs) (λ c. rw (c .are-same .ensures, c .before .text-at2 .ensures, c .before .before .text-at .ensures)))

@@ -8,18 +8,6 @@ use borrow.Author.Needs.{needs}
 use Rattle.distinct.proofs.texts.note_text.Statement.{statement}
 use Rattle.distinct.proofs.texts.note_text.Tie as tie
 
-slice-read-head : tie.Need-slice-read-head
-slice-read-head c = omega (arith, c .before .before .before .before .before .before .before .before .pre .1 .headed .sized)
-
-slice-read-from : tie.Need-slice-read-from
-slice-read-from c = omega (arith, c .before .before .before .before .before .before .before .before .before .pre .1 .since-sized)
-
-cast-from : tie.Need-cast-from
-cast-from c = omega (arith, c .slice-known6 .given (c .before .before .before .before .before .before .before .before .before .args .row))
-
-slice-write-hashes : tie.Need-slice-write-hashes
-slice-write-hashes c = omega (arith, c .before .before .before .before .before .before .before .before .before .pre .1 .hashes-sized)
-
 cast-after-last-same : tie.Need-cast-after-last-same
 cast-after-last-same c =
     let slice-known5 = c .before .before .before .slice-known5 in
@@ -52,9 +40,6 @@ slice-write-heads c =
     let asked = c .before .before .before .before .before .before .before .before .before .before .before .before .pre in
     omega (arith, asked .1 .headed .sized)
 
-cast-since : tie.Need-cast-since
-cast-since c = omega (arith, c .after-last-same .ensures .high)
-
 slice-write-since : tie.Need-slice-write-since
 slice-write-since c =
     let asked = c .before .before .before .before .before .before .before .before .before .before .before .before .pre in
@@ -70,7 +55,11 @@ pub note-text-spec : {M : Type 1} → statement M
 note-text-spec =
     tie.close
     (tie.spec
-    (λ c κs. search needs) (λ c. search needs) (λ c. search needs) slice-read-head (λ c. search needs) slice-read-from cast-from (λ c. search needs)
-    slice-write-hashes cast-after-last-same after-last-same-requires (λ c. search needs) (λ c. search needs) (λ c. search needs) slice-write-heads
-    (λ c. search needs) (λ c. search needs) cast-since (λ c. search needs) (λ c. search needs) slice-write-since (λ c. search needs)
-    (λ c. search needs) (λ c. search needs) (λ c. search needs) returns)
+    (λ c κs. search needs) (λ c. search needs) (λ c. search needs)
+    (λ c. omega (arith, c .before .before .before .before .before .before .before .before .pre .1 .headed .sized)) (λ c. search needs)
+    (λ c. omega (arith, c .before .before .before .before .before .before .before .before .before .pre .1 .since-sized))
+    (λ c. omega (arith, c .slice-known6 .given (c .before .before .before .before .before .before .before .before .before .args .row)))
+    (λ c. search needs) (λ c. omega (arith, c .before .before .before .before .before .before .before .before .before .pre .1 .hashes-sized))
+    cast-after-last-same after-last-same-requires (λ c. search needs) (λ c. search needs) (λ c. search needs) slice-write-heads (λ c. search needs)
+    (λ c. search needs) (λ c. omega (arith, c .after-last-same .ensures .high)) (λ c. search needs) (λ c. search needs) slice-write-since
+    (λ c. search needs) (λ c. search needs) (λ c. search needs) (λ c. search needs) returns)

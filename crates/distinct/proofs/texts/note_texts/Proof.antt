@@ -20,9 +20,6 @@ Inv-loop pool t width column heads₀ next₀ hashes₀ since₀ count row₀ he
 abbrev μ-loop : tie.MeasureT-loop
 μ-loop pool t width column heads₀ next₀ hashes₀ since₀ count row₀ heads next hashes since row = count - row
 
-loop-holds : tie.Need-loop-holds Inv-loop μ-loop
-loop-holds c = (search needs, refl, refl, refl, refl, c .before .before .before .before .before .before .pre .1)
-
 note-text-requires : tie.Need-note-text-requires Inv-loop μ-loop
 note-text-requires c κs =
     let turn = c .before .before .before .before .before .loop in
@@ -49,5 +46,5 @@ pub note-texts-spec : {M : Type 1} → statement M
 note-texts-spec =
     tie.close
     (tie.spec
-    Inv-loop μ-loop loop-holds note-text-requires (λ c. search needs) (λ c. search needs) loop-again (λ c. search needs) (λ c. search needs)
-    (λ c. search needs) (λ c. search needs) returns)
+    Inv-loop μ-loop (λ c. (search needs, refl, refl, refl, refl, c .before .before .before .before .before .before .pre .1)) note-text-requires
+    (λ c. search needs) (λ c. search needs) loop-again (λ c. search needs) (λ c. search needs) (λ c. search needs) (λ c. search needs) returns)

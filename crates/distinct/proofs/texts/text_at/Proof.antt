@@ -9,7 +9,4 @@ unfolding textAt
 returns c = rw (c .cell2 .ensures, c .before .cell .ensures)
 
 pub text-at-spec : {M : Type 1} → statement M
-text-at-spec =
-    tie.close
-    (tie.spec
-    (λ c κs. search needs) (λ c. search needs) (λ c κs. search needs) returns)
+text-at-spec = tie.close (tie.spec (λ c κs. search needs) (λ c. search needs) (λ c κs. search needs) returns)

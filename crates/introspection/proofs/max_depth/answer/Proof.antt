@@ -5,24 +5,6 @@ use borrow.Author.Needs.{needs}
 use Rattle.introspection.proofs.max_depth.answer.Statement.{statement}
 use Rattle.introspection.proofs.max_depth.answer.Tie as tie
 
-enum-told : tie.Need-enum-told
-enum-told c = search needs
-
-code-requires : tie.Need-code-requires
-code-requires c κs = search needs
-
-enum-known-checked : tie.Need-enum-known-checked
-enum-known-checked c = search needs
-
-code-requires-2 : tie.Need-code-requires-2
-code-requires-2 c κs = search needs
-
-enum-known-checked-2 : tie.Need-enum-known-checked-2
-enum-known-checked-2 c = search needs
-
-code-requires-3 : tie.Need-code-requires-3
-code-requires-3 c κs = search needs
-
 returns : tie.Need-returns
 unfolding answered
 returns c = rw (c .before .enum-told .given .1) (record { code = c .code .ensures; depth = refl; place = refl })
@@ -39,4 +21,5 @@ pub answer-spec : {M : Type 1} → statement M
 answer-spec =
     tie.close
     (tie.spec
-    enum-told code-requires enum-known-checked code-requires-2 enum-known-checked-2 code-requires-3 returns returns-2 returns-3)
+    (λ c. search needs) (λ c κs. search needs) (λ c. search needs) (λ c κs. search needs) (λ c. search needs) (λ c κs. search needs) returns returns-2
+    returns-3)

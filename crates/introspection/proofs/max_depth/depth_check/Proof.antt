@@ -5,16 +5,11 @@ use borrow.Author.Needs.{needs}
 use Rattle.introspection.proofs.max_depth.depth_check.Statement.{statement}
 use Rattle.introspection.proofs.max_depth.depth_check.Tie as tie
 
-returns : tie.Need-returns
-returns c = report-unlawful _ (c .before .before .table-check .ensures) (c .before .if1 .taken) (c .code .ensures)
-
-depth-of-operation-requires : tie.Need-depth-of-operation-requires
-depth-of-operation-requires c κs = report-walkable (tables _ _ _ _ _ _ _ _ _ _ _ _ _ _ _ _) (c .before .table-check .ensures) (c .if1 .left)
-
-returns-2 : tie.Need-returns-2
-returns-2 c = report-checked _ (c .before .before .table-check .ensures) (c .before .if1 .left) (c .depth-of-operation .ensures)
-
 pub depth-check-spec : {M : Type 1} → statement M
 depth-check-spec =
     tie.close
-    (tie.spec (λ c κs. search needs) (λ c κs. search needs) returns depth-of-operation-requires returns-2)
+    (tie.spec
+    (λ c κs. search needs) (λ c κs. search needs)
+    (λ c. report-unlawful _ (c .before .before .table-check .ensures) (c .before .if1 .taken) (c .code .ensures))
+    (λ c κs. report-walkable (tables _ _ _ _ _ _ _ _ _ _ _ _ _ _ _ _) (c .before .table-check .ensures) (c .if1 .left))
+    (λ c. report-checked _ (c .before .before .table-check .ensures) (c .before .if1 .left) (c .depth-of-operation .ensures)))

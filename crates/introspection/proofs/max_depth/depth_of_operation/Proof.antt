@@ -8,7 +8,4 @@ returns : tie.Need-returns
 returns c = reported _ _ (c .before .before .before .before .before .before .before .pre) (c .before .before .check-selection-set .ensures) (c .answer .ensures)
 
 pub depth-of-operation-spec : {M : Type 1} → statement M
-depth-of-operation-spec =
-    tie.close
-    (tie.spec
-    (λ c. search needs) (λ c κs. search needs) (λ c κs. search needs) returns)
+depth-of-operation-spec = tie.close (tie.spec (λ c. search needs) (λ c κs. search needs) (λ c κs. search needs) returns)

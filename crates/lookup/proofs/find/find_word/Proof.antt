@@ -12,21 +12,9 @@ Inv-loop t width column word first count i₀ i = Seeking (hasWord t width colum
 abbrev μ-loop : tie.MeasureT-loop
 μ-loop t width column word first count i₀ i = count - i
 
-loop-holds : tie.Need-loop-holds Inv-loop μ-loop
-loop-holds c = search seeking
-
-returns : tie.Need-returns Inv-loop μ-loop
-returns c = search (seeking, needs)
-
-loop-again : tie.Need-loop-again Inv-loop μ-loop
-loop-again c = search (seeking, needs)
-
-returns-2 : tie.Need-returns-2 Inv-loop μ-loop
-returns-2 c = search (seeking, needs)
-
 pub find-word-spec : {M : Type 1} → statement M
 find-word-spec =
     tie.close
     (tie.spec
-    Inv-loop μ-loop loop-holds (λ c. search needs) (λ c. search needs) (λ c κs. search needs) returns (λ c. search needs) (λ c. search needs)
-    loop-again returns-2)
+    Inv-loop μ-loop (λ c. search seeking) (λ c. search needs) (λ c. search needs) (λ c κs. search needs) (λ c. search (seeking, needs))
+    (λ c. search needs) (λ c. search needs) (λ c. search (seeking, needs)) (λ c. search (seeking, needs)))

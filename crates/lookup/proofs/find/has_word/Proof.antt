@@ -4,11 +4,10 @@ use borrow.Author.Needs.{needs}
 use Rattle.lookup.proofs.find.has_word.Statement.{statement}
 use Rattle.lookup.proofs.find.has_word.Tie as tie
 
-returns : tie.Need-returns
-returns c = none-passes _ _ (rw (c .enum-told .given .1) at (c .before .before .find-word .ensures))
-
-returns-2 : tie.Need-returns-2
-returns-2 c = one-passes _ _ (rw (c .enum-told2 .given .1) at (c .before .before .find-word .ensures))
-
 pub has-word-spec : {M : Type 1} → statement M
-has-word-spec = tie.close (tie.spec (λ c κs. search needs) (λ c. search needs) (λ c. search needs) returns returns-2)
+has-word-spec =
+    tie.close
+    (tie.spec
+    (λ c κs. search needs) (λ c. search needs) (λ c. search needs)
+    (λ c. none-passes _ _ (rw (c .enum-told .given .1) at (c .before .before .find-word .ensures)))
+    (λ c. one-passes _ _ (rw (c .enum-told2 .given .1) at (c .before .before .find-word .ensures))))

@@ -6,12 +6,12 @@ use borrow.Author.Needs.{needs}
 use Rattle.lookup.proofs.named.field_named.Statement.{statement}
 use Rattle.lookup.proofs.named.field_named.Tie as tie
 
-find-word-requires : tie.Need-find-word-requires
-find-word-requires c κs = (omega arith, omega arith, rw (c .before .type-at .ensures) (c .before .before .before .before .pre))
-
 returns : tie.Need-returns
 unfolding fieldNamed fieldAt
 returns c = rw (← c .before .before .type-at .ensures) (c .find-word .ensures)
 
 pub field-named-spec : {M : Type 1} → statement M
-field-named-spec = tie.close (tie.spec (λ c κs. search needs) find-word-requires returns)
+field-named-spec =
+    tie.close
+    (tie.spec
+    (λ c κs. search needs) (λ c κs. (omega arith, omega arith, rw (c .before .type-at .ensures) (c .before .before .before .before .pre))) returns)

@@ -10,6 +10,4 @@ returns c = rw (c .answer-of .ensures, c .before .cell4 .ensures, c .before .bef
 
 pub answer-at-spec : {M : Type 1} → statement M
 answer-at-spec =
-    tie.close
-    (tie.spec
-    (λ c κs. search needs) (λ c κs. search needs) (λ c κs. search needs) (λ c κs. search needs) (λ c κs. search needs) returns)
+    tie.close (tie.spec (λ c κs. search needs) (λ c κs. search needs) (λ c κs. search needs) (λ c κs. search needs) (λ c κs. search needs) returns)

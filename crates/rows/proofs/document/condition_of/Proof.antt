@@ -4,17 +4,9 @@ use borrow.Author.Needs.{needs}
 use Rattle.rows.proofs.document.condition_of.Statement.{statement}
 use Rattle.rows.proofs.document.condition_of.Tie as tie
 
-returns : tie.Need-returns
-returns c = rw (c .if1 .taken)
-
-returns-2 : tie.Need-returns-2
-returns-2 c = rw (c .if2 .taken)
-
-returns-3 : tie.Need-returns-3
-returns-3 c = rw (c .if3 .taken)
-
-returns-4 : tie.Need-returns-4
-returns-4 c = simp (ne-eqb _ _ (c .before .before .if1 .left), ne-eqb _ _ (c .before .if2 .left), ne-eqb _ _ (c .if3 .left))
-
 pub condition-of-spec : {M : Type 1} → statement M
-condition-of-spec = tie.close (tie.spec returns returns-2 returns-3 (λ c. search needs) returns-4)
+condition-of-spec =
+    tie.close
+    (tie.spec
+    (λ c. rw (c .if1 .taken)) (λ c. rw (c .if2 .taken)) (λ c. rw (c .if3 .taken)) (λ c. search needs)
+    (λ c. simp (ne-eqb _ _ (c .before .before .if1 .left), ne-eqb _ _ (c .before .if2 .left), ne-eqb _ _ (c .if3 .left))))

@@ -9,5 +9,4 @@ unfolding inlineSelection
 returns c = rw (c .cell2 .ensures, c .before .optional-row .ensures, c .before .before .cell .ensures)
 
 pub inline-selection-spec : {M : Type 1} → statement M
-inline-selection-spec =
-    tie.close (tie.spec (λ c κs. search needs) (λ c κs. search needs) (λ c κs. search needs) returns)
+inline-selection-spec = tie.close (tie.spec (λ c κs. search needs) (λ c κs. search needs) (λ c κs. search needs) returns)

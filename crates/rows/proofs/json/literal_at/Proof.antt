@@ -9,5 +9,4 @@ unfolding literalAt
 returns c = rw (c .literal-of .ensures, c .before .cell3 .ensures, c .before .before .cell2 .ensures, c .before .before .before .cell .ensures)
 
 pub literal-at-spec : {M : Type 1} → statement M
-literal-at-spec =
-    tie.close (tie.spec (λ c κs. search needs) (λ c κs. search needs) (λ c κs. search needs) (λ c κs. search needs) returns)
+literal-at-spec = tie.close (tie.spec (λ c κs. search needs) (λ c κs. search needs) (λ c κs. search needs) (λ c κs. search needs) returns)

@@ -9,5 +9,4 @@ unfolding nodeAt
 returns c = rw (c .node-of .ensures, c .before .cell3 .ensures, c .before .before .cell2 .ensures, c .before .before .before .cell .ensures)
 
 pub node-at-spec : {M : Type 1} → statement M
-node-at-spec =
-    tie.close (tie.spec (λ c κs. search needs) (λ c κs. search needs) (λ c κs. search needs) (λ c κs. search needs) returns)
+node-at-spec = tie.close (tie.spec (λ c κs. search needs) (λ c κs. search needs) (λ c κs. search needs) (λ c κs. search needs) returns)

@@ -8,12 +8,6 @@ use native.Mathlib.Omega.{arith}
 use Rattle.rows.proofs.layout.cell.Statement.{statement}
 use Rattle.rows.proofs.layout.cell.Tie as tie
 
-mul-at : tie.Need-mul-at
-mul-at c = omega (arith, cell-small (c .args .row) (c .args .width) (c .pre .0) (c .pre .1))
-
-add-at : tie.Need-add-at
-add-at c = omega (arith, cell-small (c .args .row) (c .args .width) (c .pre .0) (c .pre .1))
-
 returns : tie.Need-returns
 unfolding cell
 returns c = refl
@@ -24,4 +18,7 @@ returns-2 c = sym (List·getD-eq-default (c .before .args .t .now) 0 (c .if1 .le
 
 pub cell-spec : {M : Type 1} → statement M
 cell-spec =
-    tie.close (tie.spec mul-at add-at (λ c. search needs) (λ c. search needs) returns returns-2)
+    tie.close
+    (tie.spec
+    (λ c. omega (arith, cell-small (c .args .row) (c .args .width) (c .pre .0) (c .pre .1)))
+    (λ c. omega (arith, cell-small (c .args .row) (c .args .width) (c .pre .0) (c .pre .1))) (λ c. search needs) (λ c. search needs) returns returns-2)

@@ -4,11 +4,5 @@ use borrow.Author.Needs.{needs}
 use Rattle.rows.proofs.layout.optional_row.Statement.{statement}
 use Rattle.rows.proofs.layout.optional_row.Tie as tie
 
-returns : tie.Need-returns
-returns c = simp (eq-eqb _ _ (c .if1 .taken))
-
-returns-2 : tie.Need-returns-2
-returns-2 c = simp (ne-eqb _ _ (c .if1 .left))
-
 pub optional-row-spec : {M : Type 1} → statement M
-optional-row-spec = tie.close (tie.spec (λ c. search needs) returns returns-2)
+optional-row-spec = tie.close (tie.spec (λ c. search needs) (λ c. simp (eq-eqb _ _ (c .if1 .taken))) (λ c. simp (ne-eqb _ _ (c .if1 .left))))

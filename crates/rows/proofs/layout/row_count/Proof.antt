@@ -14,5 +14,4 @@ unfolding rowsOf
 returns-2 c = omega arith
 
 pub row-count-spec : {M : Type 1} → statement M
-row-count-spec =
-    tie.close (tie.spec (λ c. search needs) (λ c. search needs) (λ c. search needs) returns returns-2)
+row-count-spec = tie.close (tie.spec (λ c. search needs) (λ c. search needs) (λ c. search needs) returns returns-2)

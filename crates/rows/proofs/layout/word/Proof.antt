@@ -6,15 +6,6 @@ use native.Mathlib.Omega.{arith}
 use Rattle.rows.proofs.layout.word.Statement.{statement}
 use Rattle.rows.proofs.layout.word.Tie as tie
 
-mul-result : tie.Need-mul-result
-mul-result c = let a = c .args in omega (arith, cell-there (a .t .now) (a .width) (a .row) (a .column) (c .pre .0 .1) (c .pre .1))
-
-add-result : tie.Need-add-result
-add-result c = let a = c .args in omega (arith, cell-there (a .t .now) (a .width) (a .row) (a .column) (c .pre .0 .1) (c .pre .1))
-
-mul-result-2 : tie.Need-mul-result-2
-mul-result-2 c = let a = c .args in omega (arith, cell-there (a .t .now) (a .width) (a .row) (a .column) (c .pre .0 .1) (c .pre .1))
-
 shared-slice-read-result : tie.Need-shared-slice-read-result
 shared-slice-read-result c =
     let a = c .before .args in
@@ -26,4 +17,9 @@ returns c = refl
 
 pub word-spec : {M : Type 1} → statement M
 word-spec =
-    tie.close (tie.spec mul-result add-result mul-result-2 shared-slice-read-result returns)
+    tie.close
+    (tie.spec
+    (λ c. let a = c .args in omega (arith, cell-there (a .t .now) (a .width) (a .row) (a .column) (c .pre .0 .1) (c .pre .1)))
+    (λ c. let a = c .args in omega (arith, cell-there (a .t .now) (a .width) (a .row) (a .column) (c .pre .0 .1) (c .pre .1)))
+    (λ c. let a = c .args in omega (arith, cell-there (a .t .now) (a .width) (a .row) (a .column) (c .pre .0 .1) (c .pre .1)))
+    shared-slice-read-result returns)

@@ -10,6 +10,4 @@ returns c = rw (c .cell4 .ensures, c .before .cell3 .ensures, c .before .before 
 
 pub argument-at-spec : {M : Type 1} → statement M
 argument-at-spec =
-    tie.close
-    (tie.spec
-    (λ c κs. search needs) (λ c κs. search needs) (λ c κs. search needs) (λ c κs. search needs) (λ c κs. search needs) returns)
+    tie.close (tie.spec (λ c κs. search needs) (λ c κs. search needs) (λ c κs. search needs) (λ c κs. search needs) (λ c κs. search needs) returns)

@@ -4,11 +4,9 @@ use borrow.Author.Needs.{needs}
 use Rattle.rows.proofs.strings.is_same.Statement.{statement}
 use Rattle.rows.proofs.strings.is_same.Tie as tie
 
-returns : tie.Need-returns
-returns c = search same-lengths
-
 pub is-same-spec : {M : Type 1} → statement M
 is-same-spec =
     tie.close
     (tie.spec
-    returns (λ c κs. search needs) (λ c. search needs) (λ c κs. search needs) (λ c. search needs) (λ c κs. search needs) (λ c. search needs))
+    (λ c. search same-lengths) (λ c κs. search needs) (λ c. search needs) (λ c κs. search needs) (λ c. search needs) (λ c κs. search needs)
+    (λ c. search needs))

@@ -14,17 +14,9 @@ Inv-loop a b agree₀ i₀ agree i = agree ≡ same (take i a) (take i b)
 abbrev μ-loop : tie.MeasureT-loop
 μ-loop a b agree₀ i₀ agree i = length a - i
 
-loop-holds : tie.Need-loop-holds Inv-loop μ-loop
-loop-holds c = search agree-none
-
-loop-again : tie.Need-loop-again Inv-loop μ-loop
-loop-again c = search agree-more
-
-returns : tie.Need-returns Inv-loop μ-loop
-returns c = search agree-all
-
 pub is-same-block-spec : {M : Type 1} → statement M
 is-same-block-spec =
     tie.close
     (tie.spec
-    Inv-loop μ-loop loop-holds (λ c. search needs) (λ c. search needs) (λ c. search needs) (λ c. search needs) loop-again returns)
+    Inv-loop μ-loop (λ c. search agree-none) (λ c. search needs) (λ c. search needs) (λ c. search needs) (λ c. search needs) (λ c. search agree-more)
+    (λ c. search agree-all))

@@ -3,8 +3,5 @@ use borrow.Author.Needs.{needs}
 use Rattle.rules.proofs.answers.root_answer_is_object.Statement.{statement}
 use Rattle.rules.proofs.answers.root_answer_is_object.Tie as tie
 
-returns : tie.Need-returns
-returns c = cc
-
 pub root-answer-is-object-spec : {M : Type 1} → statement M
-root-answer-is-object-spec = tie.close (tie.spec (λ c κs. search needs) (λ c κs. search needs) returns)
+root-answer-is-object-spec = tie.close (tie.spec (λ c κs. search needs) (λ c κs. search needs) (λ c. cc))

@@ -15,15 +15,9 @@ Inv-loop selections set first count i₀ i = (i ≤ count) × (all (λ k. childL
 abbrev μ-loop : tie.MeasureT-loop
 μ-loop selections set first count i₀ i = count - i
 
-loop-holds : tie.Need-loop-holds Inv-loop μ-loop
-loop-holds c = (search needs, search every)
-
 returns : tie.Need-returns Inv-loop μ-loop
 unfolding childrenLarger
 returns c = search (every, needs)
-
-loop-again : tie.Need-loop-again Inv-loop μ-loop
-loop-again c = (search needs, search (every, needs))
 
 returns-2 : tie.Need-returns-2 Inv-loop μ-loop
 unfolding childrenLarger
@@ -33,5 +27,5 @@ pub children-are-larger-spec : {M : Type 1} → statement M
 children-are-larger-spec =
     tie.close
     (tie.spec
-    Inv-loop μ-loop (λ c. search needs) loop-holds (λ c. search needs) (λ c. search needs) (λ c κs. search needs) returns (λ c. search needs)
-    (λ c. search needs) loop-again returns-2)
+    Inv-loop μ-loop (λ c. search needs) (λ c. (search needs, search every)) (λ c. search needs) (λ c. search needs) (λ c κs. search needs) returns
+    (λ c. search needs) (λ c. search needs) (λ c. (search needs, search (every, needs))) returns-2)

@@ -5,8 +5,5 @@ use borrow.Author.Needs.{needs}
 use Rattle.rules.proofs.document.condition_is_lawful.Statement.{statement}
 use Rattle.rules.proofs.document.condition_is_lawful.Tie as tie
 
-returns : tie.Need-returns
-returns c = sym (condition-word (c .args .names) (c .args .word))
-
 pub condition-is-lawful-spec : {M : Type 1} → statement M
-condition-is-lawful-spec = tie.close (tie.spec (λ c. search needs) returns)
+condition-is-lawful-spec = tie.close (tie.spec (λ c. search needs) (λ c. sym (condition-word (c .args .names) (c .args .word))))

@@ -3,11 +3,5 @@ use borrow.Author.Needs.{needs}
 use Rattle.rules.proofs.document.selection_is_lawful.Statement.{statement}
 use Rattle.rules.proofs.document.selection_is_lawful.Tie as tie
 
-returns : tie.Need-returns
-returns c = cc
-
 pub selection-is-lawful-spec : {M : Type 1} → statement M
-selection-is-lawful-spec =
-    tie.close
-    (tie.spec
-    (λ c κs. search needs) (λ c κs. search needs) (λ c κs. search needs) returns)
+selection-is-lawful-spec = tie.close (tie.spec (λ c κs. search needs) (λ c κs. search needs) (λ c κs. search needs) (λ c. cc))

@@ -3,8 +3,5 @@ use borrow.Author.Needs.{needs}
 use Rattle.rules.proofs.json.literal_keys_differ.Statement.{statement}
 use Rattle.rules.proofs.json.literal_keys_differ.Tie as tie
 
-returns : tie.Need-returns
-returns c = cc
-
 pub literal-keys-differ-spec : {M : Type 1} → statement M
-literal-keys-differ-spec = tie.close (tie.spec (λ c κs. search needs) (λ c κs. search needs) returns)
+literal-keys-differ-spec = tie.close (tie.spec (λ c κs. search needs) (λ c κs. search needs) (λ c. cc))

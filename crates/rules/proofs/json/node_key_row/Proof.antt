@@ -3,8 +3,5 @@ use borrow.Author.Needs.{needs}
 use Rattle.rules.proofs.json.node_key_row.Statement.{statement}
 use Rattle.rules.proofs.json.node_key_row.Tie as tie
 
-returns : tie.Need-returns
-returns c = cc
-
 pub node-key-row-spec : {M : Type 1} → statement M
-node-key-row-spec = tie.close (tie.spec (λ c κs. search needs) (λ c κs. search needs) returns)
+node-key-row-spec = tie.close (tie.spec (λ c κs. search needs) (λ c κs. search needs) (λ c. cc))

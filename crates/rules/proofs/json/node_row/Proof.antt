@@ -9,6 +9,4 @@ unfolding nodeAt
 returns c = cc
 
 pub node-row-spec : {M : Type 1} → statement M
-node-row-spec =
-    tie.close
-    (tie.spec (λ c κs. search needs) (λ c κs. search needs) (λ c κs. search needs) (λ c κs. search needs) returns)
+node-row-spec = tie.close (tie.spec (λ c κs. search needs) (λ c κs. search needs) (λ c κs. search needs) (λ c κs. search needs) returns)

@@ -3,8 +3,5 @@ use borrow.Author.Needs.{needs}
 use Rattle.rules.proofs.json.variable_row.Statement.{statement}
 use Rattle.rules.proofs.json.variable_row.Tie as tie
 
-returns : tie.Need-returns
-returns c = cc
-
 pub variable-row-spec : {M : Type 1} → statement M
-variable-row-spec = tie.close (tie.spec (λ c κs. search needs) returns)
+variable-row-spec = tie.close (tie.spec (λ c κs. search needs) (λ c. cc))

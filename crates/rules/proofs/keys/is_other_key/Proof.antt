@@ -8,6 +8,4 @@ returns c = rw (c .is-same .ensures, c .before .text-of2 .ensures, c .before .be
 
 pub is-other-key-spec : {M : Type 1} → statement M
 is-other-key-spec =
-    tie.close
-    (tie.spec
-    (λ c κs. search needs) (λ c κs. search needs) (λ c κs. search needs) (λ c κs. search needs) (λ c κs. search needs) returns)
+    tie.close (tie.spec (λ c κs. search needs) (λ c κs. search needs) (λ c κs. search needs) (λ c κs. search needs) (λ c κs. search needs) returns)

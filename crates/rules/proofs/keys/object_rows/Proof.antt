@@ -29,8 +29,5 @@ no-rows (node.Array rows) o = refl
 no-rows (node.Object rows) o = absurd (miss others 8 tt o)
 no-rows node.Unknown o = refl
 
-returns-2 : tie.Need-returns-2
-returns-2 c = no-rows (c .before .args .node) (c .match .keys2)
-
 pub object-rows-spec : {M : Type 1} → statement M
-object-rows-spec = tie.close (tie.spec (λ c. search needs) (λ c. search needs) returns-2)
+object-rows-spec = tie.close (tie.spec (λ c. search needs) (λ c. search needs) (λ c. no-rows (c .before .args .node) (c .match .keys2)))

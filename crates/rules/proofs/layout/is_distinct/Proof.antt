@@ -17,12 +17,6 @@ Inv-loop t width column first count marks₀ i₀ marks i = (i ≤ count) × (al
 abbrev μ-loop : tie.MeasureT-loop
 μ-loop t width column first count marks₀ i₀ marks i = count - i
 
-loop-holds : tie.Need-loop-holds Inv-loop μ-loop
-loop-holds c = (search needs, all-none _, met-none _ _ _ _)
-
-is-new-by-marks-requires : tie.Need-is-new-by-marks-requires Inv-loop μ-loop
-is-new-by-marks-requires c κs = (search needs, search needs)
-
 returns : tie.Need-returns Inv-loop μ-loop
 unfolding distinct
 returns c = all-broken _ (c .before .before .before .before .before .loop .i) _ (c .before .before .is-new-by-marks .result) (c .before .before .before .before .loop-test .taken) (c .before .before .is-new-by-marks .ensures .0) (c .if1 .taken)
@@ -38,4 +32,5 @@ pub is-distinct-spec : {M : Type 1} → statement M
 is-distinct-spec =
     tie.close
     (tie.spec
-    Inv-loop μ-loop loop-holds (λ c. search needs) is-new-by-marks-requires returns (λ c. search needs) (λ c. search needs) loop-again returns-2)
+    Inv-loop μ-loop (λ c. (search needs, all-none _, met-none _ _ _ _)) (λ c. search needs) (λ c κs. (search needs, search needs)) returns
+    (λ c. search needs) (λ c. search needs) loop-again returns-2)

@@ -3,8 +3,5 @@ use borrow.Author.Needs.{needs}
 use Rattle.rules.proofs.layout.is_later.Statement.{statement}
 use Rattle.rules.proofs.layout.is_later.Tie as tie
 
-returns : tie.Need-returns
-returns c = cc
-
 pub is-later-spec : {M : Type 1} → statement M
-is-later-spec = tie.close (tie.spec (λ c κs. search needs) returns)
+is-later-spec = tie.close (tie.spec (λ c κs. search needs) (λ c. cc))

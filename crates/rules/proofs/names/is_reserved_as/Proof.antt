@@ -5,11 +5,9 @@ use native.Mathlib.Omega.{arith}
 use Rattle.rules.proofs.names.is_reserved_as.Statement.{statement}
 use Rattle.rules.proofs.names.is_reserved_as.Tie as tie
 
-returns-3 : tie.Need-returns-3
-returns-3 c = past-reserved (c .before .before .before .args .row) (c .before .before .before .args .name .now) (omega arith)
-
 pub is-reserved-as-spec : {M : Type 1} → statement M
 is-reserved-as-spec =
     tie.close
     (tie.spec
-    (λ c κs. search needs) (λ c. search needs) (λ c κs. search needs) (λ c. search needs) returns-3)
+    (λ c κs. search needs) (λ c. search needs) (λ c κs. search needs) (λ c. search needs)
+    (λ c. past-reserved (c .before .before .before .args .row) (c .before .before .before .args .name .now) (omega arith)))

@@ -9,6 +9,4 @@ unfolding nameSpelled
 returns c = cc
 
 pub name-is-spelled-spec : {M : Type 1} → statement M
-name-is-spelled-spec =
-    tie.close
-    (tie.spec (λ c κs. search needs) (λ c κs. search needs) (λ c κs. search needs) (λ c κs. search needs) returns)
+name-is-spelled-spec = tie.close (tie.spec (λ c κs. search needs) (λ c κs. search needs) (λ c κs. search needs) (λ c κs. search needs) returns)

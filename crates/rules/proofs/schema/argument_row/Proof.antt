@@ -9,5 +9,4 @@ unfolding argumentAt
 returns c = cc
 
 pub argument-row-spec : {M : Type 1} → statement M
-argument-row-spec =
-    tie.close (tie.spec (λ c κs. search needs) (λ c κs. search needs) (λ c κs. search needs) (λ c κs. search needs) returns)
+argument-row-spec = tie.close (tie.spec (λ c κs. search needs) (λ c κs. search needs) (λ c κs. search needs) (λ c κs. search needs) returns)

@@ -3,8 +3,5 @@ use borrow.Author.Needs.{needs}
 use Rattle.rules.proofs.schema.fields_differ.Statement.{statement}
 use Rattle.rules.proofs.schema.fields_differ.Tie as tie
 
-returns : tie.Need-returns
-returns c = cc
-
 pub fields-differ-spec : {M : Type 1} → statement M
-fields-differ-spec = tie.close (tie.spec (λ c κs. search needs) (λ c κs. search needs) returns)
+fields-differ-spec = tie.close (tie.spec (λ c κs. search needs) (λ c κs. search needs) (λ c. cc))

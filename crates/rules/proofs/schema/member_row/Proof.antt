@@ -3,8 +3,5 @@ use borrow.Author.Needs.{needs}
 use Rattle.rules.proofs.schema.member_row.Statement.{statement}
 use Rattle.rules.proofs.schema.member_row.Tie as tie
 
-returns : tie.Need-returns
-returns c = cc
-
 pub member-row-spec : {M : Type 1} → statement M
-member-row-spec = tie.close (tie.spec (λ c κs. search needs) returns)
+member-row-spec = tie.close (tie.spec (λ c κs. search needs) (λ c. cc))

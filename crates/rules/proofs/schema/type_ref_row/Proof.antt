@@ -9,6 +9,4 @@ unfolding typeRefAt
 returns c = cc
 
 pub type-ref-row-spec : {M : Type 1} → statement M
-type-ref-row-spec =
-    tie.close
-    (tie.spec (λ c κs. search needs) (λ c κs. search needs) (λ c κs. search needs) (λ c κs. search needs) returns)
+type-ref-row-spec = tie.close (tie.spec (λ c κs. search needs) (λ c κs. search needs) (λ c κs. search needs) (λ c κs. search needs) returns)

@@ -3,9 +3,5 @@ use borrow.Author.Needs.{needs}
 use Rattle.rules.proofs.strings.is_float_text.Statement.{statement}
 use Rattle.rules.proofs.strings.is_float_text.Tie as tie
 
-returns : tie.Need-returns
-returns c = cc
-
 pub is-float-text-spec : {M : Type 1} → statement M
-is-float-text-spec =
-    tie.close (tie.spec (λ c κs. search needs) (λ c κs. search needs) (λ c κs. search needs) returns)
+is-float-text-spec = tie.close (tie.spec (λ c κs. search needs) (λ c κs. search needs) (λ c κs. search needs) (λ c. cc))

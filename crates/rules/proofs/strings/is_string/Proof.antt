@@ -4,12 +4,6 @@ use borrow.Author.Needs.{needs}
 use Rattle.rules.proofs.strings.is_string.Statement.{statement}
 use Rattle.rules.proofs.strings.is_string.Tie as tie
 
-returns : tie.Need-returns
-returns c = let a = c .before .before .before .before .args in text-outside (a .pool .now) (a .text .start) (a .text .len) (c .if1 .taken)
-
-is-part-utf8-requires : tie.Need-is-part-utf8-requires
-is-part-utf8-requires c κs = (c .before .before .before .before .before .pre (c .if2 .taken), (search needs, search needs))
-
 returns-2 : tie.Need-returns-2
 returns-2 c =
     let a = c .before .before .before .before .before .before .args in
@@ -24,5 +18,7 @@ pub is-string-spec : {M : Type 1} → statement M
 is-string-spec =
     tie.close
     (tie.spec
-    (λ c. search needs) (λ c. search needs) (λ c. search needs) returns is-part-utf8-requires returns-2 (λ c. search needs) (λ c. search needs)
-    (λ c. search needs) (λ c κs. search needs) returns-3)
+    (λ c. search needs) (λ c. search needs) (λ c. search needs)
+    (λ c. let a = c .before .before .before .before .args in text-outside (a .pool .now) (a .text .start) (a .text .len) (c .if1 .taken))
+    (λ c κs. (c .before .before .before .before .before .pre (c .if2 .taken), (search needs, search needs))) returns-2 (λ c. search needs)
+    (λ c. search needs) (λ c. search needs) (λ c κs. search needs) returns-3)

@@ -5,11 +5,6 @@ use borrow.Author.Needs.{needs}
 use Rattle.table_file.proofs.layout.row_start.Statement.{statement}
 use Rattle.table_file.proofs.layout.row_start.Tie as tie
 
-mul-result : tie.Need-mul-result
-mul-result c = record { fits = rw (c .row-width .ensures) (row-fits _ _ (omega arith)) }
-
-returns : tie.Need-returns
-returns c = cc
-
 pub row-start-spec : {M : Type 1} → statement M
-row-start-spec = tie.close (tie.spec (λ c κs. search needs) mul-result returns)
+row-start-spec =
+    tie.close (tie.spec (λ c κs. search needs) (λ c. record { fits = rw (c .row-width .ensures) (row-fits _ _ (omega arith)) }) (λ c. cc))

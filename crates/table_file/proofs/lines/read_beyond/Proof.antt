@@ -14,12 +14,10 @@ Inv-loop text pool₀ words₀ table most sizes₀ at₀ number₀ line₀ pool 
 abbrev μ-loop : tie.MeasureT-loop
 μ-loop text pool₀ words₀ table most sizes₀ at₀ number₀ line₀ pool words sizes at number line = length text - at
 
-loop-holds : tie.Need-loop-holds Inv-loop μ-loop
-loop-holds c = (search needs, search needs, search needs, nothing-held 16)
-
 pub read-beyond-spec : {M : Type 1} → statement M
 read-beyond-spec =
     tie.close
     (tie.spec
-    Inv-loop μ-loop loop-holds (λ c. search needs) (λ c. search needs) (λ c. search needs) (λ c κs. search needs) (λ c. search needs)
-    (λ c κs. search needs) (λ c. search needs) (λ c. search needs) (λ c. search needs) (λ c. search needs) (λ c. search needs))
+    Inv-loop μ-loop (λ c. (search needs, search needs, search needs, nothing-held 16)) (λ c. search needs) (λ c. search needs) (λ c. search needs)
+    (λ c κs. search needs) (λ c. search needs) (λ c κs. search needs) (λ c. search needs) (λ c. search needs) (λ c. search needs) (λ c. search needs)
+    (λ c. search needs))

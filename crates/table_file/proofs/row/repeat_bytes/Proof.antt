@@ -12,13 +12,10 @@ Inv-loop pool₀ sizes start count times total k₀ pool k = count ≤ k
 abbrev μ-loop : tie.MeasureT-loop
 μ-loop pool₀ sizes start count times total k₀ pool k = total - k
 
-mul-total : tie.Need-mul-total Inv-loop μ-loop
-mul-total c = record { fits = copies-fit _ _ (omega arith) (omega arith) }
-
 pub repeat-bytes-spec : {M : Type 1} → statement M
 repeat-bytes-spec =
     tie.close
     (tie.spec
-    Inv-loop μ-loop mul-total (λ c. search needs) (λ c. search needs) (λ c. search needs) (λ c. search needs) (λ c. search needs) (λ c. search needs)
-    (λ c. search needs) (λ c. search needs) (λ c. search needs) (λ c. search needs) (λ c. search needs) (λ c. search needs) (λ c κs. search needs)
-    (λ c. search needs))
+    Inv-loop μ-loop (λ c. record { fits = copies-fit _ _ (omega arith) (omega arith) }) (λ c. search needs) (λ c. search needs) (λ c. search needs)
+    (λ c. search needs) (λ c. search needs) (λ c. search needs) (λ c. search needs) (λ c. search needs) (λ c. search needs) (λ c. search needs)
+    (λ c. search needs) (λ c. search needs) (λ c κs. search needs) (λ c. search needs))

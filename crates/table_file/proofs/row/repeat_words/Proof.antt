@@ -12,16 +12,11 @@ Inv-loop words₀ sizes number start count times total first k₀ words k = coun
 abbrev μ-loop : tie.MeasureT-loop
 μ-loop words₀ sizes number start count times total first k₀ words k = total - k
 
-mul-total : tie.Need-mul-total Inv-loop μ-loop
-mul-total c = record { fits = copies-fit _ _ (omega arith) (omega arith) }
-
-returns-2 : tie.Need-returns-2 Inv-loop μ-loop
-returns-2 c = table-set _ _ _ (c .before .before .before .pre .4) (omega arith) (omega arith)
-
 pub repeat-words-spec : {M : Type 1} → statement M
 repeat-words-spec =
     tie.close
     (tie.spec
-    Inv-loop μ-loop mul-total (λ c. search needs) (λ c. search needs) (λ c. search needs) (λ c. search needs) (λ c. search needs) (λ c. search needs)
+    Inv-loop μ-loop (λ c. record { fits = copies-fit _ _ (omega arith) (omega arith) }) (λ c. search needs) (λ c. search needs) (λ c. search needs)
     (λ c. search needs) (λ c. search needs) (λ c. search needs) (λ c. search needs) (λ c. search needs) (λ c. search needs) (λ c. search needs)
-    (λ c. search needs) (λ c. search needs) (λ c. search needs) (λ c. search needs) (λ c. search needs) returns-2)
+    (λ c. search needs) (λ c. search needs) (λ c. search needs) (λ c. search needs) (λ c. search needs) (λ c. search needs) (λ c. search needs)
+    (λ c. search needs) (λ c. table-set _ _ _ (c .before .before .before .pre .4) (omega arith) (omega arith)))

@@ -4,8 +4,5 @@ use borrow.Author.Needs.{needs}
 use Rattle.table_file.proofs.store.fill_pool.Statement.{statement}
 use Rattle.table_file.proofs.store.fill_pool.Tie as tie
 
-returns : tie.Need-returns
-returns c = pool-set _ _ (c .pre .1) (c .pre .0)
-
 pub fill-pool-spec : {M : Type 1} → statement M
-fill-pool-spec = tie.close (tie.spec (λ c. search needs) returns)
+fill-pool-spec = tie.close (tie.spec (λ c. search needs) (λ c. pool-set _ _ (c .pre .1) (c .pre .0)))

@@ -7,15 +7,9 @@ use borrow.Author.Needs.{needs}
 use Rattle.table_file.proofs.store.pool_bytes.Statement.{statement}
 use Rattle.table_file.proofs.store.pool_bytes.Tie as tie
 
-slice-aggregate-result : tie.Need-slice-aggregate-result
-slice-aggregate-result c = simp length-take (omega arith)
-
 returns : tie.Need-returns
 unfolding poolOf
 returns c = search needs
 
-returns-2 : tie.Need-returns-2
-returns-2 c = search (whole-pool, needs)
-
 pub pool-bytes-spec : {M : Type 1} → statement M
-pool-bytes-spec = tie.close (tie.spec (λ c. search needs) slice-aggregate-result returns returns-2)
+pool-bytes-spec = tie.close (tie.spec (λ c. search needs) (λ c. simp length-take (omega arith)) returns (λ c. search (whole-pool, needs)))

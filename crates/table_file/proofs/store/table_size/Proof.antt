@@ -3,8 +3,5 @@ use borrow.Author.Needs.{needs}
 use Rattle.table_file.proofs.store.table_size.Statement.{statement}
 use Rattle.table_file.proofs.store.table_size.Tie as tie
 
-returns : tie.Need-returns
-returns c = c .before .pre .2 .tables _ (search needs)
-
 pub table-size-spec : {M : Type 1} → statement M
-table-size-spec = tie.close (tie.spec (λ c. search needs) (λ c. search needs) returns)
+table-size-spec = tie.close (tie.spec (λ c. search needs) (λ c. search needs) (λ c. c .before .pre .2 .tables _ (search needs)))

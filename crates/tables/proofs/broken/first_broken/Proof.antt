@@ -24,9 +24,6 @@ returns c =
     keys-obeyed _ _ (c .before .before .before .is-on-keys .ensures (c .before .before .if1 .taken))
     (sym (c .before .all-node-keys-differ .ensures) ∙ c .if2 .taken)
 
-loop-holds : tie.Need-loop-holds Inv-loop μ-loop
-loop-holds c = (search needs, all-none _)
-
 returns-2 : tie.Need-returns-2 Inv-loop μ-loop
 returns-2 c =
     let looked = c .before .before .before in
@@ -51,5 +48,5 @@ pub first-broken-spec : {M : Type 1} → statement M
 first-broken-spec =
     tie.close
     (tie.spec
-    Inv-loop μ-loop (λ c κs. search needs) (λ c κs. search needs) returns (λ c κs. search needs) loop-holds (λ c κs. search needs) returns-2
-    (λ c. search needs) (λ c. search needs) loop-again returns-3)
+    Inv-loop μ-loop (λ c κs. search needs) (λ c κs. search needs) returns (λ c κs. search needs) (λ c. (search needs, all-none _))
+    (λ c κs. search needs) returns-2 (λ c. search needs) (λ c. search needs) loop-again returns-3)

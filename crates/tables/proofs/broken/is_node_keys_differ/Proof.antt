@@ -4,8 +4,5 @@ use borrow.Author.Needs.{needs}
 use Rattle.tables.proofs.broken.is_node_keys_differ.Statement.{statement}
 use Rattle.tables.proofs.broken.is_node_keys_differ.Tie as tie
 
-returns-2 : tie.Need-returns-2
-returns-2 c = λ e. absurd (false≢true e)
-
 pub is-node-keys-differ-spec : {M : Type 1} → statement M
-is-node-keys-differ-spec = tie.close (tie.spec (λ c. search needs) (λ c. search needs) returns-2)
+is-node-keys-differ-spec = tie.close (tie.spec (λ c. search needs) (λ c. search needs) (λ c. λ e. absurd (false≢true e)))

@@ -4,11 +4,8 @@ use borrow.Author.Needs.{needs}
 use Rattle.tables.proofs.broken.is_on_keys.Statement.{statement}
 use Rattle.tables.proofs.broken.is_on_keys.Tie as tie
 
-returns : tie.Need-returns
-returns c = λ e. let h = c .is-node-keys-differ .ensures e in cc
-
-returns-2 : tie.Need-returns-2
-returns-2 c = λ e. absurd (false≢true e)
-
 pub is-on-keys-spec : {M : Type 1} → statement M
-is-on-keys-spec = tie.close (tie.spec (λ c. search needs) (λ c κs. search needs) returns returns-2)
+is-on-keys-spec =
+    tie.close
+    (tie.spec
+    (λ c. search needs) (λ c κs. search needs) (λ c. λ e. let h = c .is-node-keys-differ .ensures e in cc) (λ c. λ e. absurd (false≢true e)))

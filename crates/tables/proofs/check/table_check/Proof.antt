@@ -6,9 +6,6 @@ use borrow.Author.Needs.{needs}
 use Rattle.tables.proofs.check.table_check.Statement.{statement}
 use Rattle.tables.proofs.check.table_check.Tie as tie
 
-returns : tie.Need-returns
-returns c = code-rows _ (c .before .rows-are-lawful .result) (c .before .rows-are-lawful .ensures) (c .if1 .taken)
-
 defaults-are-closed-requires : tie.Need-defaults-are-closed-requires
 defaults-are-closed-requires c κs =
     let rows = verified _ _ (c .before .rows-are-lawful .ensures) (c .if1 .left) in
@@ -23,4 +20,6 @@ returns-3 c = code-lawful _ (c .before .before .before .rows-are-lawful .result)
 pub table-check-spec : {M : Type 1} → statement M
 table-check-spec =
     tie.close
-    (tie.spec (λ c κs. search needs) returns defaults-are-closed-requires returns-2 returns-3)
+    (tie.spec
+    (λ c κs. search needs) (λ c. code-rows _ (c .before .rows-are-lawful .result) (c .before .rows-are-lawful .ensures) (c .if1 .taken))
+    defaults-are-closed-requires returns-2 returns-3)

@@ -3,9 +3,6 @@ use borrow.Author.Needs.{needs}
 use Rattle.tables.proofs.defaults.argument_is_unmarked.Statement.{statement}
 use Rattle.tables.proofs.defaults.argument_is_unmarked.Tie as tie
 
-returns : tie.Need-returns
-returns c = rw (c .default-is-unmarked .ensures, c .before .argument-at .ensures)
-
 pub argument-is-unmarked-spec : {M : Type 1} → statement M
 argument-is-unmarked-spec =
-    tie.close (tie.spec (λ c κs. search needs) (λ c κs. search needs) returns)
+    tie.close (tie.spec (λ c κs. search needs) (λ c κs. search needs) (λ c. rw (c .default-is-unmarked .ensures, c .before .argument-at .ensures)))

@@ -15,9 +15,6 @@ Inv-loop arguments marks rows row₀ row = (row ≤ rows) × (all (argumentUnmar
 abbrev μ-loop : tie.MeasureT-loop
 μ-loop arguments marks rows row₀ row = rows - row
 
-loop-holds : tie.Need-loop-holds Inv-loop μ-loop
-loop-holds c = (search needs, all-none _)
-
 returns : tie.Need-returns Inv-loop μ-loop
 returns c = rw (← (c .before .before .before .before .row-count .ensures)) (all-broken _ (c .before .before .before .loop .row) _ (c .before .argument-is-unmarked .result) (c .before .before .loop-test .taken) (c .before .argument-is-unmarked .ensures) (c .if1 .taken))
 
@@ -31,4 +28,5 @@ pub arguments-are-unmarked-spec : {M : Type 1} → statement M
 arguments-are-unmarked-spec =
     tie.close
     (tie.spec
-    Inv-loop μ-loop (λ c κs. search needs) loop-holds (λ c κs. search needs) returns (λ c. search needs) (λ c. search needs) loop-again returns-2)
+    Inv-loop μ-loop (λ c κs. search needs) (λ c. (search needs, all-none _)) (λ c κs. search needs) returns (λ c. search needs) (λ c. search needs)
+    loop-again returns-2)

@@ -3,10 +3,9 @@ use borrow.Author.Needs.{needs}
 use Rattle.tables.proofs.defaults.default_is_unmarked.Statement.{statement}
 use Rattle.tables.proofs.defaults.default_is_unmarked.Tie as tie
 
-returns-2 : tie.Need-returns-2
-returns-2 c = rw (c .before .before .default .given .1) (c .is-unmarked .ensures)
-
 pub default-is-unmarked-spec : {M : Type 1} → statement M
 default-is-unmarked-spec =
     tie.close
-    (tie.spec (λ c. search needs) (λ c. search needs) (λ c. search needs) (λ c κs. search needs) (λ c. search needs) returns-2)
+    (tie.spec
+    (λ c. search needs) (λ c. search needs) (λ c. search needs) (λ c κs. search needs) (λ c. search needs)
+    (λ c. rw (c .before .before .default .given .1) (c .is-unmarked .ensures)))

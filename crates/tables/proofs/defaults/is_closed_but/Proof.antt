@@ -3,12 +3,6 @@ use borrow.Author.Needs.{needs}
 use Rattle.tables.proofs.defaults.is_closed_but.Statement.{statement}
 use Rattle.tables.proofs.defaults.is_closed_but.Tie as tie
 
-returns-8 : tie.Need-returns-8
-returns-8 c = rw (c .before .before .literal .given .1) (c .parts-are-unmarked .ensures)
-
-returns-9 : tie.Need-returns-9
-returns-9 c = rw (c .before .before .literal2 .given .1) (c .parts-are-unmarked2 .ensures)
-
 pub is-closed-but-spec : {M : Type 1} → statement M
 is-closed-but-spec =
     tie.close
@@ -16,4 +10,5 @@ is-closed-but-spec =
     (λ c. search needs) (λ c. search needs) (λ c. search needs) (λ c. search needs) (λ c. search needs) (λ c. search needs) (λ c. search needs)
     (λ c. search needs) (λ c κs. search needs) (λ c. search needs) (λ c κs. search needs) (λ c. search needs) (λ c. search needs) (λ c. search needs)
     (λ c. search needs) (λ c. search needs) (λ c. search needs) (λ c. search needs) (λ c. search needs) (λ c. search needs) (λ c. search needs)
-    returns-8 returns-9 (λ c. search needs) (λ c. search needs) (λ c. search needs))
+    (λ c. rw (c .before .before .literal .given .1) (c .parts-are-unmarked .ensures))
+    (λ c. rw (c .before .before .literal2 .given .1) (c .parts-are-unmarked2 .ensures)) (λ c. search needs) (λ c. search needs) (λ c. search needs))

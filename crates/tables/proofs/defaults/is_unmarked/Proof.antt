@@ -5,8 +5,6 @@ use borrow.Author.Needs.{needs}
 use Rattle.tables.proofs.defaults.is_unmarked.Statement.{statement}
 use Rattle.tables.proofs.defaults.is_unmarked.Tie as tie
 
-returns-2 : tie.Need-returns-2
-returns-2 c = rw (List·getD-eq-default (c .before .args .marks .now) 0 (c .if1 .left))
-
 pub is-unmarked-spec : {M : Type 1} → statement M
-is-unmarked-spec = tie.close (tie.spec (λ c. search needs) (λ c. search needs) returns-2)
+is-unmarked-spec =
+    tie.close (tie.spec (λ c. search needs) (λ c. search needs) (λ c. rw (List·getD-eq-default (c .before .args .marks .now) 0 (c .if1 .left))))

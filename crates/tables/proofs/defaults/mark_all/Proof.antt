@@ -24,12 +24,9 @@ loop-again c =
     let turn = c .before .before .before .before .before .loop in
     (search needs, mark-turn (start .args .literals .now) (start .pre .1) _ _ (turn .row) (omega arith) (turn .inv .0) (turn .inv .1) (c .before .before .mark-row .ensures))
 
-returns : tie.Need-returns Inv-loop μ-loop
-returns c = mark-end _ _ (c .before .loop .row) (c .loop-test .left) (c .before .loop .inv .1)
-
 pub mark-all-spec : {M : Type 1} → statement M
 mark-all-spec =
     tie.close
     (tie.spec
     Inv-loop μ-loop (λ c κs. search needs) loop-holds (λ c. search needs) (λ c κs. search needs) (λ c. search needs) loop-again (λ c. search needs)
-    returns)
+    (λ c. mark-end _ _ (c .before .loop .row) (c .loop-test .left) (c .before .loop .inv .1)))

@@ -3,10 +3,9 @@ use borrow.Author.Needs.{needs}
 use Rattle.tables.proofs.defaults.mark_row.Statement.{statement}
 use Rattle.tables.proofs.defaults.mark_row.Tie as tie
 
-returns : tie.Need-returns
-returns c = rw (c .mark-of .ensures, c .before .row-is-closed .ensures)
-
 pub mark-row-spec : {M : Type 1} → statement M
 mark-row-spec =
     tie.close
-    (tie.spec (λ c κs. search needs) (λ c κs. search needs) (λ c. search needs) (λ c. search needs) returns)
+    (tie.spec
+    (λ c κs. search needs) (λ c κs. search needs) (λ c. search needs) (λ c. search needs)
+    (λ c. rw (c .mark-of .ensures, c .before .row-is-closed .ensures)))

@@ -16,15 +16,6 @@ Inv-loop selections set skips₀ first end row₀ skips row = Skips selections s
 abbrev μ-loop : tie.MeasureT-loop
 μ-loop selections set skips₀ first end row₀ skips row = 2049 - row
 
-first-unlooked-requires : tie.Need-first-unlooked-requires Inv-loop μ-loop
-first-unlooked-requires c κs = (c .before .before .before .before .before .pre .0, omega (arith, c .before .before .before .before .before .pre .1))
-
-loop-holds : tie.Need-loop-holds Inv-loop μ-loop
-loop-holds c = (c .before .before .first-unlooked .ensures .0, c .before .before .first-unlooked .ensures .1)
-
-child-is-larger-requires : tie.Need-child-is-larger-requires Inv-loop μ-loop
-child-is-larger-requires c κs = omega (arith, c .before .loop .inv .1 .high)
-
 same-length : tie.Need-same-length Inv-loop μ-loop
 same-length c = omega (arith, c .before .before .before .loop .inv .0 .room, c .before .before .before .before .before .before .before .before .before .before .before .before .pre .0 .room)
 
@@ -32,21 +23,6 @@ returns : tie.Need-returns Inv-loop μ-loop
 returns c =
     let l = c .before .before .before .loop in
     (larger-broken _ _ _ (l .row) _ (l .inv .1 .low) (c .before .before .loop-test .taken) (c .before .child-is-larger .ensures) (c .if1 .taken), l .inv .0)
-
-add-skips : tie.Need-add-skips Inv-loop μ-loop
-add-skips c = omega (arith, c .before .before .before .loop .inv .1 .high)
-
-cast-skips : tie.Need-cast-skips Inv-loop μ-loop
-cast-skips c = omega (arith, c .before .before .before .loop .inv .1 .high)
-
-mul-skips : tie.Need-mul-skips Inv-loop μ-loop
-mul-skips c = omega (arith, c .before .before .before .loop .inv .1 .high)
-
-slice-write-skips : tie.Need-slice-write-skips Inv-loop μ-loop
-slice-write-skips c = omega (arith, c .before .before .before .loop .inv .0 .room, c .before .before .before .loop .inv .1 .high)
-
-add-first-unlooked : tie.Need-add-first-unlooked Inv-loop μ-loop
-add-first-unlooked c = omega (arith, c .before .before .before .before .loop .inv .1 .high)
 
 first-unlooked-requires-2 : tie.Need-first-unlooked-requires-2 Inv-loop μ-loop
 first-unlooked-requires-2 c κs =
@@ -71,13 +47,15 @@ loop-again c =
 same-length-2 : tie.Need-same-length-2 Inv-loop μ-loop
 same-length-2 c = omega (arith, c .before .loop .inv .0 .room, c .before .before .before .before .before .before .before .before .before .before .pre .0 .room)
 
-returns-2 : tie.Need-returns-2 Inv-loop μ-loop
-returns-2 c = let l = c .before .loop in (larger-all _ _ _ (l .row) (l .inv .1) (c .loop-test .left), l .inv .0)
-
 pub children-are-larger-spec : {M : Type 1} → statement M
 children-are-larger-spec =
     tie.close
     (tie.spec
-    Inv-loop μ-loop (λ c. search needs) (λ c. search needs) (λ c. search needs) first-unlooked-requires loop-holds child-is-larger-requires
-    same-length returns add-skips cast-skips mul-skips slice-write-skips add-first-unlooked first-unlooked-requires-2 loop-less loop-again
-    same-length-2 returns-2)
+    Inv-loop μ-loop (λ c. search needs) (λ c. search needs) (λ c. search needs)
+    (λ c κs. (c .before .before .before .before .before .pre .0, omega (arith, c .before .before .before .before .before .pre .1)))
+    (λ c. (c .before .before .first-unlooked .ensures .0, c .before .before .first-unlooked .ensures .1))
+    (λ c κs. omega (arith, c .before .loop .inv .1 .high)) same-length returns (λ c. omega (arith, c .before .before .before .loop .inv .1 .high))
+    (λ c. omega (arith, c .before .before .before .loop .inv .1 .high)) (λ c. omega (arith, c .before .before .before .loop .inv .1 .high))
+    (λ c. omega (arith, c .before .before .before .loop .inv .0 .room, c .before .before .before .loop .inv .1 .high))
+    (λ c. omega (arith, c .before .before .before .before .loop .inv .1 .high)) first-unlooked-requires-2 loop-less loop-again same-length-2
+    (λ c. let l = c .before .loop in (larger-all _ _ _ (l .row) (l .inv .1) (c .loop-test .left), l .inv .0)))

@@ -5,20 +5,11 @@ use borrow.Author.Needs.{needs}
 use Rattle.tables.proofs.document.document_is_lawful.Statement.{statement}
 use Rattle.tables.proofs.document.document_is_lawful.Tie as tie
 
-returns : tie.Need-returns
-returns c = conj-broken _ 0 (c .before .each-given-holds .result) (c .before .each-given-holds .ensures) (c .if1 .taken)
-
 returns-2 : tie.Need-returns-2
 returns-2 c = conj-broken _ 1 (c .before .selections-hold .result) (rw (c .before .before .before .before .row-count .ensures) at (c .before .selections-hold .ensures)) (c .if2 .taken)
 
 returns-3 : tie.Need-returns-3
 returns-3 c = conj-broken _ 2 (c .before .each-fragment-holds .result) (rw (c .before .before .before .before .before .before .row-count .ensures) at (c .before .each-fragment-holds .ensures)) (c .if3 .taken)
-
-returns-4 : tie.Need-returns-4
-returns-4 c = conj-broken _ 3 (c .before .is-distinct-column .result) (c .before .is-distinct-column .ensures) (c .if4 .taken)
-
-returns-5 : tie.Need-returns-5
-returns-5 c = conj-broken _ 4 (c .before .owners-differ .result) (c .before .owners-differ .ensures) (c .if5 .taken)
 
 returns-6 : tie.Need-returns-6
 unfolding conj
@@ -43,5 +34,8 @@ pub document-is-lawful-spec : {M : Type 1} → statement M
 document-is-lawful-spec =
     tie.close
     (tie.spec
-    (λ c κs. search needs) (λ c κs. search needs) returns (λ c κs. search needs) returns-2 (λ c κs. search needs) returns-3 (λ c κs. search needs)
-    returns-4 (λ c κs. search needs) returns-5 (λ c κs. search needs) returns-6)
+    (λ c κs. search needs) (λ c κs. search needs)
+    (λ c. conj-broken _ 0 (c .before .each-given-holds .result) (c .before .each-given-holds .ensures) (c .if1 .taken)) (λ c κs. search needs)
+    returns-2 (λ c κs. search needs) returns-3 (λ c κs. search needs)
+    (λ c. conj-broken _ 3 (c .before .is-distinct-column .result) (c .before .is-distinct-column .ensures) (c .if4 .taken)) (λ c κs. search needs)
+    (λ c. conj-broken _ 4 (c .before .owners-differ .result) (c .before .owners-differ .ensures) (c .if5 .taken)) (λ c κs. search needs) returns-6)

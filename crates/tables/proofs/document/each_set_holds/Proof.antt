@@ -21,12 +21,6 @@ Inv-loop sets selections count skips₀ set₀ skips set =
 abbrev μ-loop : tie.MeasureT-loop
 μ-loop sets selections count skips₀ set₀ skips set = set
 
-loop-holds : tie.Need-loop-holds Inv-loop μ-loop
-loop-holds c = (omega (arith, c .row-count2 .ensures), skips-none _ _, λ k l m. absurd (omega (arith, c .row-count2 .ensures)))
-
-slice-aggregate-set-holds : tie.Need-slice-aggregate-set-holds Inv-loop μ-loop
-slice-aggregate-set-holds c = sym (c .before .before .loop .inv .1 .room)
-
 set-holds-requires : tie.Need-set-holds-requires Inv-loop μ-loop
 set-holds-requires c κs =
     let l = c .before .before .loop in
@@ -57,12 +51,11 @@ loop-again c =
       one-more _ _ (l .set) _ (held .result) (c .before .before .before .before .loop-test .taken) (l .inv .2) (held .ensures .0) (c .if1 .left),
     )
 
-returns-2 : tie.Need-returns-2 Inv-loop μ-loop
-returns-2 c = sym (all-each _ _ (λ k m. c .before .loop .inv .2 k (omega (arith, c .loop-test .left)) m))
-
 pub each-set-holds-spec : {M : Type 1} → statement M
 each-set-holds-spec =
     tie.close
     (tie.spec
-    Inv-loop μ-loop (λ c κs. search needs) (λ c κs. search needs) loop-holds (λ c. search needs) slice-aggregate-set-holds set-holds-requires returns
-    (λ c. search needs) loop-again returns-2)
+    Inv-loop μ-loop (λ c κs. search needs) (λ c κs. search needs)
+    (λ c. (omega (arith, c .row-count2 .ensures), skips-none _ _, λ k l m. absurd (omega (arith, c .row-count2 .ensures)))) (λ c. search needs)
+    (λ c. sym (c .before .before .loop .inv .1 .room)) set-holds-requires returns (λ c. search needs) loop-again
+    (λ c. sym (all-each _ _ (λ k m. c .before .loop .inv .2 k (omega (arith, c .loop-test .left)) m))))

@@ -15,36 +15,6 @@ Inv-loop selections set skips₀ from row₀ skips row = Skips selections set sk
 abbrev μ-loop : tie.MeasureT-loop
 μ-loop selections set skips₀ from row₀ skips row = 2048 - row
 
-loop-holds : tie.Need-loop-holds Inv-loop μ-loop
-loop-holds c = (c .pre .0, larger-none _ _ _ (c .pre .1))
-
-mul-if1 : tie.Need-mul-if1 Inv-loop μ-loop
-mul-if1 c = omega (arith, c .loop .inv .1 .high)
-
-slice-read-if1 : tie.Need-slice-read-if1 Inv-loop μ-loop
-slice-read-if1 c = omega (arith, c .before .loop .inv .0 .room, c .before .loop .inv .1 .high)
-
-mul-next : tie.Need-mul-next Inv-loop μ-loop
-mul-next c = omega (arith, c .before .before .loop .inv .1 .high)
-
-slice-read-next : tie.Need-slice-read-next Inv-loop μ-loop
-slice-read-next c = omega (arith, c .before .before .before .loop .inv .0 .room, c .before .before .before .loop .inv .1 .high)
-
-cast-next : tie.Need-cast-next Inv-loop μ-loop
-cast-next c = let l = c .before .before .before .loop in omega (arith, l .inv .0 .low (l .row))
-
-mul-further : tie.Need-mul-further Inv-loop μ-loop
-mul-further c = let l = c .before .before .before .loop in omega (arith, l .inv .0 .low (l .row))
-
-slice-read-further : tie.Need-slice-read-further Inv-loop μ-loop
-slice-read-further c = let l = c .before .before .before .before .loop in omega (arith, l .inv .0 .room, l .inv .0 .low (l .row))
-
-mul-skips : tie.Need-mul-skips Inv-loop μ-loop
-mul-skips c = omega (arith, c .before .before .before .before .before .loop .inv .1 .high)
-
-slice-write-skips : tie.Need-slice-write-skips Inv-loop μ-loop
-slice-write-skips c = let l = c .before .before .before .before .before .loop in omega (arith, l .inv .0 .room, l .inv .1 .high)
-
 loop-less : tie.Need-loop-less Inv-loop μ-loop
 loop-less c =
     let l = c .before .before .before .before .before .loop in
@@ -66,15 +36,17 @@ loop-again-2 c =
     let l = c .before .before .before .before .before .loop in
     (l .inv .0, larger-on _ _ _ (l .inv .0) _ (l .row) (l .inv .1) (c .before .before .before .if1 .taken))
 
-same-length : tie.Need-same-length Inv-loop μ-loop
-same-length c = omega (arith, c .before .before .loop .inv .0 .room, c .before .before .before .pre .0 .room)
-
-returns : tie.Need-returns Inv-loop μ-loop
-returns c = (c .before .before .loop .inv .0, c .before .before .loop .inv .1)
-
 pub first-unlooked-spec : {M : Type 1} → statement M
 first-unlooked-spec =
     tie.close
     (tie.spec
-    Inv-loop μ-loop loop-holds mul-if1 slice-read-if1 mul-next slice-read-next cast-next mul-further slice-read-further mul-skips slice-write-skips
-    loop-less loop-again loop-less-2 loop-again-2 same-length returns)
+    Inv-loop μ-loop (λ c. (c .pre .0, larger-none _ _ _ (c .pre .1))) (λ c. omega (arith, c .loop .inv .1 .high))
+    (λ c. omega (arith, c .before .loop .inv .0 .room, c .before .loop .inv .1 .high)) (λ c. omega (arith, c .before .before .loop .inv .1 .high))
+    (λ c. omega (arith, c .before .before .before .loop .inv .0 .room, c .before .before .before .loop .inv .1 .high))
+    (λ c. let l = c .before .before .before .loop in omega (arith, l .inv .0 .low (l .row)))
+    (λ c. let l = c .before .before .before .loop in omega (arith, l .inv .0 .low (l .row)))
+    (λ c. let l = c .before .before .before .before .loop in omega (arith, l .inv .0 .room, l .inv .0 .low (l .row)))
+    (λ c. omega (arith, c .before .before .before .before .before .loop .inv .1 .high))
+    (λ c. let l = c .before .before .before .before .before .loop in omega (arith, l .inv .0 .room, l .inv .1 .high)) loop-less loop-again loop-less-2
+    loop-again-2 (λ c. omega (arith, c .before .before .loop .inv .0 .room, c .before .before .before .pre .0 .room))
+    (λ c. (c .before .before .loop .inv .0, c .before .before .loop .inv .1)))

@@ -4,11 +4,8 @@ use borrow.Author.Needs.{needs}
 use Rattle.tables.proofs.document.given_differ_since.Statement.{statement}
 use Rattle.tables.proofs.document.given_differ_since.Tie as tie
 
-returns : tie.Need-returns
-returns c = none-given _ _ _ _ (c .if1 .taken)
-
-returns-2 : tie.Need-returns-2
-returns-2 c = rw (c .before .if1 .left) (c .is-distinct-since .ensures)
-
 pub given-differ-since-spec : {M : Type 1} → statement M
-given-differ-since-spec = tie.close (tie.spec returns (λ c κs. search needs) returns-2)
+given-differ-since-spec =
+    tie.close
+    (tie.spec
+    (λ c. none-given _ _ _ _ (c .if1 .taken)) (λ c κs. search needs) (λ c. rw (c .before .if1 .left) (c .is-distinct-since .ensures)))

@@ -11,9 +11,6 @@ unfolding selectionHolds selectionAt selectionOf fieldSelection spreadSelection 
 returns c =
     rw (← (c .before .before .before .before .before .before .before .before .before .before .before .before .before .before .pre .1 .0), ← (c .before .before .before .before .before .before .before .before .before .before .word .ensures), ← (c .before .before .before .before .before .before .before .before .before .word2 .ensures), ← (c .before .before .before .before .before .before .before .before .word3 .ensures), ← (c .before .before .before .before .before .before .before .word4 .ensures), ← (c .before .before .before .before .before .before .word5 .ensures), ← (c .before .before .before .before .before .word6 .ensures), ← (c .before .before .before .before .word7 .ensures), ← (c .before .before .before .word8 .ensures), ← (c .before .before .word9 .ensures), ← (c .before .selection-is-lawful .ensures), turned-false (c .before .selection-is-lawful .result) (c .if1 .taken))
 
-given-differ-since-requires : tie.Need-given-differ-since-requires
-given-differ-since-requires c κs = c .before .before .before .before .before .before .before .before .before .before .before .before .before .before .pre .1 .1
-
 returns-2 : tie.Need-returns-2
 unfolding selectionHolds selectionAt selectionOf fieldSelection spreadSelection inlineSelection
 returns-2 c =
@@ -25,4 +22,5 @@ selection-holds-spec =
     tie.close
     (tie.spec
     (λ c κs. search needs) (λ c κs. search needs) (λ c κs. search needs) (λ c κs. search needs) (λ c κs. search needs) (λ c κs. search needs)
-    (λ c κs. search needs) (λ c κs. search needs) (λ c κs. search needs) (λ c κs. search needs) returns given-differ-since-requires returns-2)
+    (λ c κs. search needs) (λ c κs. search needs) (λ c κs. search needs) (λ c κs. search needs) returns
+    (λ c κs. c .before .before .before .before .before .before .before .before .before .before .before .before .before .before .pre .1 .1) returns-2)

@@ -37,7 +37,4 @@ returns-2 c =
     )
 
 pub set-holds-spec : {M : Type 1} → statement M
-set-holds-spec =
-    tie.close
-    (tie.spec
-    (λ c κs. search needs) returns (λ c κs. search needs) children-are-larger-requires (λ c. search needs) returns-2)
+set-holds-spec = tie.close (tie.spec (λ c κs. search needs) returns (λ c κs. search needs) children-are-larger-requires (λ c. search needs) returns-2)

@@ -5,20 +5,11 @@ use native.Mathlib.Omega.{arith}
 use Rattle.tables.proofs.rulebook.rule_at.Statement.{statement}
 use Rattle.tables.proofs.rulebook.rule_at.Tie as tie
 
-returns : tie.Need-returns
-returns c = rw (c .nth-size-rule .ensures) (rule-size (c .before .before .args .k) (omega arith))
-
-returns-2 : tie.Need-returns-2
-returns-2 c = rw (c .nth-schema-rule .ensures) (rule-schema (c .before .before .before .args .k) (omega arith) (omega arith))
-
-returns-3 : tie.Need-returns-3
-returns-3 c = rw (c .nth-document-rule .ensures) (rule-document (c .before .before .before .before .args .k) (omega arith) (omega arith))
-
-returns-4 : tie.Need-returns-4
-returns-4 c = rw (c .nth-value-rule .ensures) (rule-value (c .before .before .before .before .args .k) (omega arith))
-
 pub rule-at-spec : {M : Type 1} → statement M
 rule-at-spec =
     tie.close
     (tie.spec
-    (λ c κs. search needs) returns (λ c κs. search needs) returns-2 (λ c κs. search needs) returns-3 (λ c κs. search needs) returns-4)
+    (λ c κs. search needs) (λ c. rw (c .nth-size-rule .ensures) (rule-size (c .before .before .args .k) (omega arith))) (λ c κs. search needs)
+    (λ c. rw (c .nth-schema-rule .ensures) (rule-schema (c .before .before .before .args .k) (omega arith) (omega arith))) (λ c κs. search needs)
+    (λ c. rw (c .nth-document-rule .ensures) (rule-document (c .before .before .before .before .args .k) (omega arith) (omega arith)))
+    (λ c κs. search needs) (λ c. rw (c .nth-value-rule .ensures) (rule-value (c .before .before .before .before .args .k) (omega arith))))

@@ -4,21 +4,12 @@ use borrow.Author.Needs.{needs}
 use Rattle.tables.proofs.rulebook.rule_holds_at.Statement.{statement}
 use Rattle.tables.proofs.rulebook.rule_holds_at.Tie as tie
 
-returns : tie.Need-returns
-returns c = rw (c .before .before .rule .given .1) (c .size-holds .ensures)
-
-returns-2 : tie.Need-returns-2
-returns-2 c = rw (c .before .before .rule2 .given .1, ← schema-same) (c .schema-holds .ensures)
-
-returns-3 : tie.Need-returns-3
-returns-3 c = rw (c .before .before .rule3 .given .1, ← document-same) (c .document-holds .ensures)
-
-returns-4 : tie.Need-returns-4
-returns-4 c = rw (c .before .before .rule4 .given .1, ← value-same) (c .value-holds .ensures)
-
 pub rule-holds-at-spec : {M : Type 1} → statement M
 rule-holds-at-spec =
     tie.close
     (tie.spec
     (λ c. search needs) (λ c κs. search needs) (λ c. search needs) (λ c κs. search needs) (λ c. search needs) (λ c κs. search needs)
-    (λ c. search needs) (λ c κs. search needs) returns returns-2 returns-3 returns-4)
+    (λ c. search needs) (λ c κs. search needs) (λ c. rw (c .before .before .rule .given .1) (c .size-holds .ensures))
+    (λ c. rw (c .before .before .rule2 .given .1, ← schema-same) (c .schema-holds .ensures))
+    (λ c. rw (c .before .before .rule3 .given .1, ← document-same) (c .document-holds .ensures))
+    (λ c. rw (c .before .before .rule4 .given .1, ← value-same) (c .value-holds .ensures)))

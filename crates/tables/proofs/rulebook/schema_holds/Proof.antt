@@ -3,44 +3,14 @@ use borrow.Author.Needs.{needs}
 use Rattle.tables.proofs.rulebook.schema_holds.Statement.{statement}
 use Rattle.tables.proofs.rulebook.schema_holds.Tie as tie
 
-returns : tie.Need-returns
-returns c = rw (c .before .enum-told .given .1, c .name-is-spelled .ensures)
-
-returns-2 : tie.Need-returns-2
-returns-2 c = rw (c .before .enum-told2 .given .1, c .name-is-reserved .ensures)
-
-returns-3 : tie.Need-returns-3
-returns-3 c = rw (c .before .enum-told3 .given .1, c .name-is-new .ensures)
-
-returns-4 : tie.Need-returns-4
-returns-4 c = rw (c .before .before .enum-told4 .given .1, c .type-ref-row .ensures, c .before .row-count .ensures)
-
 returns-5 : tie.Need-returns-5
 returns-5 c = rw (c .before .before .before .before .enum-told5 .given .1, c .type-row .ensures, c .before .row-count4 .ensures, c .before .before .row-count3 .ensures, c .before .before .before .row-count2 .ensures)
-
-returns-6 : tie.Need-returns-6
-returns-6 c = rw (c .before .enum-told6 .given .1, c .type-parts .ensures)
-
-returns-7 : tie.Need-returns-7
-returns-7 c = rw (c .before .enum-told7 .given .1, c .type-name-is-new .ensures)
-
-returns-8 : tie.Need-returns-8
-returns-8 c = rw (c .before .before .enum-told8 .given .1, c .member-row .ensures, c .before .row-count5 .ensures)
 
 returns-9 : tie.Need-returns-9
 returns-9 c = rw (c .before .before .before .before .before .enum-told9 .given .1, c .field-row .ensures, c .before .row-count9 .ensures, c .before .before .row-count8 .ensures, c .before .before .before .row-count7 .ensures, c .before .before .before .before .row-count6 .ensures)
 
-returns-10 : tie.Need-returns-10
-returns-10 c = rw (c .before .enum-told10 .given .1, c .fields-differ .ensures)
-
 returns-11 : tie.Need-returns-11
 returns-11 c = rw (c .before .before .before .before .enum-told11 .given .1, c .argument-row .ensures, c .before .row-count12 .ensures, c .before .before .row-count11 .ensures, c .before .before .before .row-count10 .ensures)
-
-returns-12 : tie.Need-returns-12
-returns-12 c = rw (c .before .enum-told12 .given .1, c .arguments-differ .ensures)
-
-returns-13 : tie.Need-returns-13
-returns-13 c = rw (c .before .enum-told13 .given .1, c .root-is-object .ensures)
 
 pub schema-holds-spec : {M : Type 1} → statement M
 schema-holds-spec =
@@ -52,5 +22,11 @@ schema-holds-spec =
     (λ c. search needs) (λ c κs. search needs) (λ c κs. search needs) (λ c. search needs) (λ c κs. search needs) (λ c κs. search needs)
     (λ c κs. search needs) (λ c κs. search needs) (λ c κs. search needs) (λ c. search needs) (λ c κs. search needs) (λ c. search needs)
     (λ c κs. search needs) (λ c κs. search needs) (λ c κs. search needs) (λ c κs. search needs) (λ c. search needs) (λ c κs. search needs)
-    (λ c. search needs) (λ c κs. search needs) returns returns-2 returns-3 returns-4 returns-5 returns-6 returns-7 returns-8 returns-9 returns-10
-    returns-11 returns-12 returns-13)
+    (λ c. search needs) (λ c κs. search needs) (λ c. rw (c .before .enum-told .given .1, c .name-is-spelled .ensures))
+    (λ c. rw (c .before .enum-told2 .given .1, c .name-is-reserved .ensures)) (λ c. rw (c .before .enum-told3 .given .1, c .name-is-new .ensures))
+    (λ c. rw (c .before .before .enum-told4 .given .1, c .type-ref-row .ensures, c .before .row-count .ensures)) returns-5
+    (λ c. rw (c .before .enum-told6 .given .1, c .type-parts .ensures)) (λ c. rw (c .before .enum-told7 .given .1, c .type-name-is-new .ensures))
+    (λ c. rw (c .before .before .enum-told8 .given .1, c .member-row .ensures, c .before .row-count5 .ensures)) returns-9
+    (λ c. rw (c .before .enum-told10 .given .1, c .fields-differ .ensures)) returns-11
+    (λ c. rw (c .before .enum-told12 .given .1, c .arguments-differ .ensures))
+    (λ c. rw (c .before .enum-told13 .given .1, c .root-is-object .ensures)))

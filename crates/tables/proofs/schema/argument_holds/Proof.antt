@@ -9,5 +9,4 @@ unfolding argumentAt
 returns c = cc
 
 pub argument-holds-spec : {M : Type 1} → statement M
-argument-holds-spec =
-    tie.close (tie.spec (λ c κs. search needs) (λ c κs. search needs) (λ c κs. search needs) (λ c κs. search needs) returns)
+argument-holds-spec = tie.close (tie.spec (λ c κs. search needs) (λ c κs. search needs) (λ c κs. search needs) (λ c κs. search needs) returns)

@@ -5,12 +5,6 @@ use borrow.Author.Needs.{needs}
 use Rattle.tables.proofs.schema.schema_is_lawful.Statement.{statement}
 use Rattle.tables.proofs.schema.schema_is_lawful.Tie as tie
 
-returns : tie.Need-returns
-returns c = conj-broken _ 0 (c .before .each-name-holds .result) (c .before .each-name-holds .ensures) (c .if1 .taken)
-
-returns-2 : tie.Need-returns-2
-returns-2 c = conj-broken _ 1 (c .before .all-names-differ .result) (c .before .all-names-differ .ensures) (c .if2 .taken)
-
 returns-3 : tie.Need-returns-3
 returns-3 c = conj-broken _ 2 (c .before .each-type-ref-holds .result) (rw (c .before .before .before .before .before .before .before .row-count .ensures) at (c .before .each-type-ref-holds .ensures)) (c .if3 .taken)
 
@@ -25,9 +19,6 @@ returns-6 c = conj-broken _ 5 (c .before .fields-hold .result) (rw (c .before .b
 
 returns-7 : tie.Need-returns-7
 returns-7 c = conj-broken _ 6 (c .before .types-hold .result) (rw (c .before .before .before .before .before .before .before .before .before .before .before .before .before .before .before .before .row-count .ensures, c .before .before .row-count3 .ensures) at (c .before .types-hold .ensures)) (c .if7 .taken)
-
-returns-8 : tie.Need-returns-8
-returns-8 c = conj-broken _ 7 (c .before .is-distinct-column .result) (c .before .is-distinct-column .ensures) (c .if8 .taken)
 
 returns-9 : tie.Need-returns-9
 unfolding conj
@@ -59,6 +50,10 @@ pub schema-is-lawful-spec : {M : Type 1} → statement M
 schema-is-lawful-spec =
     tie.close
     (tie.spec
-    (λ c κs. search needs) (λ c κs. search needs) (λ c κs. search needs) returns (λ c κs. search needs) returns-2 (λ c κs. search needs) returns-3
-    (λ c κs. search needs) returns-4 (λ c κs. search needs) returns-5 (λ c κs. search needs) returns-6 (λ c κs. search needs) (λ c κs. search needs)
-    returns-7 (λ c κs. search needs) returns-8 (λ c κs. search needs) returns-9)
+    (λ c κs. search needs) (λ c κs. search needs) (λ c κs. search needs)
+    (λ c. conj-broken _ 0 (c .before .each-name-holds .result) (c .before .each-name-holds .ensures) (c .if1 .taken)) (λ c κs. search needs)
+    (λ c. conj-broken _ 1 (c .before .all-names-differ .result) (c .before .all-names-differ .ensures) (c .if2 .taken)) (λ c κs. search needs)
+    returns-3 (λ c κs. search needs) returns-4 (λ c κs. search needs) returns-5 (λ c κs. search needs) returns-6 (λ c κs. search needs)
+    (λ c κs. search needs) returns-7 (λ c κs. search needs)
+    (λ c. conj-broken _ 7 (c .before .is-distinct-column .result) (c .before .is-distinct-column .ensures) (c .if8 .taken)) (λ c κs. search needs)
+    returns-9)

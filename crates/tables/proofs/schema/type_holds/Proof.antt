@@ -18,7 +18,4 @@ returns-2 c =
     (c .is-distinct-since .ensures)
 
 pub type-holds-spec : {M : Type 1} → statement M
-type-holds-spec =
-    tie.close
-    (tie.spec
-    (λ c κs. search needs) (λ c κs. search needs) returns (λ c κs. search needs) (λ c κs. search needs) returns-2)
+type-holds-spec = tie.close (tie.spec (λ c κs. search needs) (λ c κs. search needs) returns (λ c κs. search needs) (λ c κs. search needs) returns-2)

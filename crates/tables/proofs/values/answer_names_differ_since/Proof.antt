@@ -21,6 +21,4 @@ returns-2 c =
 
 pub answer-names-differ-since-spec : {M : Type 1} → statement M
 answer-names-differ-since-spec =
-    tie.close
-    (tie.spec
-    (λ c κs. search needs) returns (λ c κs. search needs) (λ c κs. search needs) (λ c κs. search needs) returns-2)
+    tie.close (tie.spec (λ c κs. search needs) returns (λ c κs. search needs) (λ c κs. search needs) (λ c κs. search needs) returns-2)

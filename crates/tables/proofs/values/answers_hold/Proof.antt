@@ -20,6 +20,4 @@ returns-3 : tie.Need-returns-3
 returns-3 c = rw (← (c .before .before .before .before .look-at-answers .ensures .lawful), turned-true (c .before .before .before .before .look-at-answers .result .lawful) (c .before .before .if1 .left)) (c .answer-names-differ .ensures)
 
 pub answers-hold-spec : {M : Type 1} → statement M
-answers-hold-spec =
-    tie.close
-    (tie.spec (λ c κs. search needs) returns returns-2 (λ c κs. search needs) returns-3)
+answers-hold-spec = tie.close (tie.spec (λ c κs. search needs) returns returns-2 (λ c κs. search needs) returns-3)

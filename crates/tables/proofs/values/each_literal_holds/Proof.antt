@@ -15,12 +15,6 @@ Inv-loop pool whole names literals since known count row₀ row = (row ≤ count
 abbrev μ-loop : tie.MeasureT-loop
 μ-loop pool whole names literals since known count row₀ row = count - row
 
-loop-holds : tie.Need-loop-holds Inv-loop μ-loop
-loop-holds c = (search needs, all-none _)
-
-literal-holds-requires : tie.Need-literal-holds-requires Inv-loop μ-loop
-literal-holds-requires c κs = let start = c .before .before .before .before .before .before in (start .pre .0, (search needs, start .pre .1))
-
 returns : tie.Need-returns Inv-loop μ-loop
 returns c =
     let turn = c .before .before .before in
@@ -41,4 +35,6 @@ pub each-literal-holds-spec : {M : Type 1} → statement M
 each-literal-holds-spec =
     tie.close
     (tie.spec
-    Inv-loop μ-loop (λ c κs. search needs) loop-holds literal-holds-requires returns (λ c. search needs) (λ c. search needs) loop-again returns-2)
+    Inv-loop μ-loop (λ c κs. search needs) (λ c. (search needs, all-none _))
+    (λ c κs. let start = c .before .before .before .before .before .before in (start .pre .0, (search needs, start .pre .1))) returns
+    (λ c. search needs) (λ c. search needs) loop-again returns-2)

@@ -15,9 +15,6 @@ Inv-loop pool whole nodes count row₀ row = (row ≤ count) × (all (nodeHolds 
 abbrev μ-loop : tie.MeasureT-loop
 μ-loop pool whole nodes count row₀ row = count - row
 
-loop-holds : tie.Need-loop-holds Inv-loop μ-loop
-loop-holds c = (search needs, all-none _)
-
 returns : tie.Need-returns Inv-loop μ-loop
 returns c =
     let turn = c .before .before .before in
@@ -38,4 +35,5 @@ pub each-node-holds-spec : {M : Type 1} → statement M
 each-node-holds-spec =
     tie.close
     (tie.spec
-    Inv-loop μ-loop (λ c κs. search needs) loop-holds (λ c κs. search needs) returns (λ c. search needs) (λ c. search needs) loop-again returns-2)
+    Inv-loop μ-loop (λ c κs. search needs) (λ c. (search needs, all-none _)) (λ c κs. search needs) returns (λ c. search needs) (λ c. search needs)
+    loop-again returns-2)

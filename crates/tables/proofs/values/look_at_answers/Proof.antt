@@ -17,9 +17,6 @@ Inv-loop names nodes answers count plain₀ row₀ plain row =
 abbrev μ-loop : tie.MeasureT-loop
 μ-loop names nodes answers count plain₀ row₀ plain row = count - row
 
-loop-holds : tie.Need-loop-holds Inv-loop μ-loop
-loop-holds c = (search needs, all-none _, λ e. all-none _)
-
 returns : tie.Need-returns Inv-loop μ-loop
 returns c =
     let turn = c .before .before .before in
@@ -56,5 +53,5 @@ pub look-at-answers-spec : {M : Type 1} → statement M
 look-at-answers-spec =
     tie.close
     (tie.spec
-    Inv-loop μ-loop (λ c κs. search needs) loop-holds (λ c κs. search needs) returns (λ c κs. search needs) (λ c. search needs) (λ c. search needs)
-    loop-again returns-2)
+    Inv-loop μ-loop (λ c κs. search needs) (λ c. (search needs, all-none _, λ e. all-none _)) (λ c κs. search needs) returns (λ c κs. search needs)
+    (λ c. search needs) (λ c. search needs) loop-again returns-2)

@@ -6,26 +6,8 @@ use borrow.Author.Needs.{needs}
 use Rattle.tables.proofs.values.values_are_lawful.Statement.{statement}
 use Rattle.tables.proofs.values.values_are_lawful.Tie as tie
 
-each-node-holds-requires : tie.Need-each-node-holds-requires
-each-node-holds-requires c κs = λ e. sym (c .before .is-utf8 .ensures) ∙ e
-
-returns : tie.Need-returns
-returns c = conj-broken _ 0 (c .before .each-node-holds .result) (c .before .each-node-holds .ensures) (c .if1 .taken)
-
-returns-2 : tie.Need-returns-2
-returns-2 c = conj-broken _ 1 (c .before .all-node-keys-differ .result) (c .before .all-node-keys-differ .ensures) (c .if2 .taken)
-
-literals-hold-requires : tie.Need-literals-hold-requires
-literals-hold-requires c κs = λ e. sym (c .before .before .before .before .before .is-utf8 .ensures) ∙ e
-
-returns-3 : tie.Need-returns-3
-returns-3 c = conj-broken _ 2 (c .before .literals-hold .result) (c .before .literals-hold .ensures) (c .if3 .taken)
-
 returns-4 : tie.Need-returns-4
 returns-4 c = conj-broken _ 3 (c .before .each-variable-holds .result) (rw (c .before .before .before .before .before .before .before .before .row-count .ensures) at (c .before .each-variable-holds .ensures)) (c .if4 .taken)
-
-returns-5 : tie.Need-returns-5
-returns-5 c = conj-broken _ 4 (c .before .is-distinct-column .result) (c .before .is-distinct-column .ensures) (c .if5 .taken)
 
 returns-6 : tie.Need-returns-6
 returns-6 c = conj-broken _ 5 (c .before .answers-hold .result) (rw (c .before .before .before .before .before .before .before .before .before .before .before .before .row-count .ensures) at (c .before .answers-hold .ensures)) (c .if6 .taken)
@@ -54,5 +36,10 @@ pub values-are-lawful-spec : {M : Type 1} → statement M
 values-are-lawful-spec =
     tie.close
     (tie.spec
-    (λ c κs. search needs) (λ c κs. search needs) each-node-holds-requires returns (λ c κs. search needs) returns-2 literals-hold-requires returns-3
-    (λ c κs. search needs) returns-4 (λ c κs. search needs) returns-5 (λ c κs. search needs) returns-6 (λ c κs. search needs) returns-7)
+    (λ c κs. search needs) (λ c κs. search needs) (λ c κs. λ e. sym (c .before .is-utf8 .ensures) ∙ e)
+    (λ c. conj-broken _ 0 (c .before .each-node-holds .result) (c .before .each-node-holds .ensures) (c .if1 .taken)) (λ c κs. search needs)
+    (λ c. conj-broken _ 1 (c .before .all-node-keys-differ .result) (c .before .all-node-keys-differ .ensures) (c .if2 .taken))
+    (λ c κs. λ e. sym (c .before .before .before .before .before .is-utf8 .ensures) ∙ e)
+    (λ c. conj-broken _ 2 (c .before .literals-hold .result) (c .before .literals-hold .ensures) (c .if3 .taken)) (λ c κs. search needs) returns-4
+    (λ c κs. search needs) (λ c. conj-broken _ 4 (c .before .is-distinct-column .result) (c .before .is-distinct-column .ensures) (c .if5 .taken))
+    (λ c κs. search needs) returns-6 (λ c κs. search needs) returns-7)

@@ -15,17 +15,9 @@ Inv-loop s gathered₀ i₀ gathered i = ltb gathered 0x80 ≡ isAscii (take i s
 abbrev μ-loop : tie.MeasureT-loop
 μ-loop s gathered₀ i₀ gathered i = length s - i
 
-loop-holds : tie.Need-loop-holds Inv-loop μ-loop
-loop-holds c = search gathered-none
-
-loop-again : tie.Need-loop-again Inv-loop μ-loop
-loop-again c = search gathered-more
-
-returns : tie.Need-returns Inv-loop μ-loop
-returns c = search gathered-all
-
 pub is-ascii-spec : {M : Type 1} → statement M
 is-ascii-spec =
     tie.close
     (tie.spec
-    Inv-loop μ-loop loop-holds (λ c. search needs) (λ c. search needs) (λ c. search needs) loop-again returns)
+    Inv-loop μ-loop (λ c. search gathered-none) (λ c. search needs) (λ c. search needs) (λ c. search needs) (λ c. search gathered-more)
+    (λ c. search gathered-all))

@@ -4,8 +4,5 @@ use borrow.Author.Needs.{needs}
 use Rattle.text.proofs.ascii.past_ascii.Statement.{statement}
 use Rattle.text.proofs.ascii.past_ascii.Tie as tie
 
-returns : tie.Need-returns
-returns c = search past-all
-
 pub past-ascii-spec : {M : Type 1} → statement M
-past-ascii-spec = tie.close (tie.spec (λ c κs. search needs) (λ c κs. search needs) (λ c κs. search needs) returns)
+past-ascii-spec = tie.close (tie.spec (λ c κs. search needs) (λ c κs. search needs) (λ c κs. search needs) (λ c. search past-all))

@@ -13,21 +13,9 @@ Inv-loop s from size at₀ at = AsciiBlocks s size from at
 abbrev μ-loop : tie.MeasureT-loop
 μ-loop s from size at₀ at = length s - at
 
-loop-holds : tie.Need-loop-holds Inv-loop μ-loop
-loop-holds c = search blocks-none
-
-returns : tie.Need-returns Inv-loop μ-loop
-returns c = search blocks-other
-
-loop-again : tie.Need-loop-again Inv-loop μ-loop
-loop-again c = search blocks-more
-
-returns-2 : tie.Need-returns-2 Inv-loop μ-loop
-returns-2 c = search blocks-over
-
 pub past-blocks-spec : {M : Type 1} → statement M
 past-blocks-spec =
     tie.close
     (tie.spec
-    Inv-loop μ-loop loop-holds (λ c. search needs) (λ c. search needs) (λ c. search needs) (λ c. search needs) (λ c. search needs)
-    (λ c κs. search needs) returns (λ c. search needs) loop-again returns-2)
+    Inv-loop μ-loop (λ c. search blocks-none) (λ c. search needs) (λ c. search needs) (λ c. search needs) (λ c. search needs) (λ c. search needs)
+    (λ c κs. search needs) (λ c. search blocks-other) (λ c. search needs) (λ c. search blocks-more) (λ c. search blocks-over))

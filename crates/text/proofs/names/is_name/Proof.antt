@@ -14,27 +14,10 @@ Inv-loop s i₀ i = isName s ≡ allNameContinue (drop i s)
 abbrev μ-loop : tie.MeasureT-loop
 μ-loop s i₀ i = length s - i
 
-returns : tie.Need-returns Inv-loop μ-loop
-returns c = search name-empty
-
-returns-2 : tie.Need-returns-2 Inv-loop μ-loop
-returns-2 c = search name-refused
-
-loop-holds : tie.Need-loop-holds Inv-loop μ-loop
-loop-holds c = search name-begun
-
-returns-3 : tie.Need-returns-3 Inv-loop μ-loop
-returns-3 c = search name-stopped
-
-loop-again : tie.Need-loop-again Inv-loop μ-loop
-loop-again c = search name-continued
-
-returns-4 : tie.Need-returns-4 Inv-loop μ-loop
-returns-4 c = search name-ended
-
 pub is-name-spec : {M : Type 1} → statement M
 is-name-spec =
     tie.close
     (tie.spec
-    Inv-loop μ-loop returns (λ c. search needs) (λ c κs. search needs) returns-2 loop-holds (λ c. search needs) (λ c κs. search needs) returns-3
-    (λ c. search needs) (λ c. search needs) loop-again returns-4)
+    Inv-loop μ-loop (λ c. search name-empty) (λ c. search needs) (λ c κs. search needs) (λ c. search name-refused) (λ c. search name-begun)
+    (λ c. search needs) (λ c κs. search needs) (λ c. search name-stopped) (λ c. search needs) (λ c. search needs) (λ c. search name-continued)
+    (λ c. search name-ended))

@@ -14,20 +14,9 @@ Inv-loop s at i₀ i = digits (drop at s) ≡ digits (drop i s)
 abbrev μ-loop : tie.MeasureT-loop
 μ-loop s at i₀ i = length s - i
 
-loop-holds : tie.Need-loop-holds Inv-loop μ-loop
-loop-holds c = refl
-
-returns : tie.Need-returns Inv-loop μ-loop
-returns c = search digits-stopped
-
-loop-again : tie.Need-loop-again Inv-loop μ-loop
-loop-again c = search digits-more
-
-returns-2 : tie.Need-returns-2 Inv-loop μ-loop
-returns-2 c = search digits-over
-
 pub past-digits-spec : {M : Type 1} → statement M
 past-digits-spec =
     tie.close
     (tie.spec
-    Inv-loop μ-loop loop-holds (λ c. search needs) (λ c κs. search needs) returns (λ c. search needs) (λ c. search needs) loop-again returns-2)
+    Inv-loop μ-loop (λ c. refl) (λ c. search needs) (λ c κs. search needs) (λ c. search digits-stopped) (λ c. search needs) (λ c. search needs)
+    (λ c. search digits-more) (λ c. search digits-over))

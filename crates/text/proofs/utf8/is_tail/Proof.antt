@@ -3,8 +3,5 @@ use Rattle.text.proofs.utf8.Octets.{tail-test}
 use Rattle.text.proofs.utf8.is_tail.Statement.{statement}
 use Rattle.text.proofs.utf8.is_tail.Tie as tie
 
-returns : tie.Need-returns
-returns c = tail-test (c .args .byte) (c .fits .byte .fits)
-
 pub is-tail-spec : {M : Type 1} → statement M
-is-tail-spec = tie.close (tie.spec returns)
+is-tail-spec = tie.close (tie.spec (λ c. tail-test (c .args .byte) (c .fits .byte .fits)))

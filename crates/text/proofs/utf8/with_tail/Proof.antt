@@ -4,8 +4,5 @@ use borrow.Author.Needs.{needs}
 use Rattle.text.proofs.utf8.with_tail.Statement.{statement}
 use Rattle.text.proofs.utf8.with_tail.Tie as tie
 
-returns : tie.Need-returns
-returns c = search tail-appended
-
 pub with-tail-spec : {M : Type 1} → statement M
-with-tail-spec = tie.close (tie.spec (λ c κs. search needs) returns)
+with-tail-spec = tie.close (tie.spec (λ c κs. search needs) (λ c. search tail-appended))

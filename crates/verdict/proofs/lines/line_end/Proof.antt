@@ -25,22 +25,15 @@ Inv-loop text from at₀ at = (from ≤ at) × (at ≤ length text) × ((k : ℕ
 abbrev μ-loop : tie.MeasureT-loop
 μ-loop text from at₀ at = length text - at
 
-loop-holds : tie.Need-loop-holds Inv-loop μ-loop
-loop-holds c = (search needs, search needs, λ k l h e. omega arith)
-
-returns : tie.Need-returns Inv-loop μ-loop
-returns c = (search needs, search needs, record { inside = c .before .before .before .loop .inv .2; ended = λ h. c .if1 .taken })
-
 loop-again : tie.Need-loop-again Inv-loop μ-loop
 loop-again c =
     let looked = c .before .before .before in
     (search needs, search needs, further (looked .before .args .text .now) _ _ (looked .loop .inv .2) (c .if1 .left))
 
-returns-2 : tie.Need-returns-2 Inv-loop μ-loop
-returns-2 c = (search needs, search needs, record { inside = c .before .loop .inv .2; ended = λ h. absurd (omega arith) })
-
 pub line-end-spec : {M : Type 1} → statement M
 line-end-spec =
     tie.close
     (tie.spec
-    Inv-loop μ-loop loop-holds (λ c. search needs) returns (λ c. search needs) (λ c. search needs) loop-again returns-2)
+    Inv-loop μ-loop (λ c. (search needs, search needs, λ k l h e. omega arith)) (λ c. search needs)
+    (λ c. (search needs, search needs, record { inside = c .before .before .before .loop .inv .2; ended = λ h. c .if1 .taken })) (λ c. search needs)
+    (λ c. search needs) loop-again (λ c. (search needs, search needs, record { inside = c .before .loop .inv .2; ended = λ h. absurd (omega arith) })))

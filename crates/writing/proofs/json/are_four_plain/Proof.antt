@@ -10,7 +10,4 @@ unfolding allPlain
 returns c = rw (and-true, c .before .before .before .is-plain .ensures, c .before .before .is-plain2 .ensures, c .before .is-plain3 .ensures, c .is-plain4 .ensures)
 
 pub are-four-plain-spec : {M : Type 1} → statement M
-are-four-plain-spec =
-    tie.close
-    (tie.spec
-    (λ c κs. search needs) (λ c κs. search needs) (λ c κs. search needs) (λ c κs. search needs) returns)
+are-four-plain-spec = tie.close (tie.spec (λ c κs. search needs) (λ c κs. search needs) (λ c κs. search needs) (λ c κs. search needs) returns)

@@ -14,17 +14,9 @@ Inv-loop s plain₀ i₀ plain i = plain ≡ allPlain (take i s)
 abbrev μ-loop : tie.MeasureT-loop
 μ-loop s plain₀ i₀ plain i = length s - i
 
-loop-holds : tie.Need-loop-holds Inv-loop μ-loop
-loop-holds c = search plain-none
-
-loop-again : tie.Need-loop-again Inv-loop μ-loop
-loop-again c = search plain-more
-
-returns : tie.Need-returns Inv-loop μ-loop
-returns c = search plain-all
-
 pub are-plain-spec : {M : Type 1} → statement M
 are-plain-spec =
     tie.close
     (tie.spec
-    Inv-loop μ-loop loop-holds (λ c. search needs) (λ c κs. search needs) (λ c. search needs) (λ c. search needs) loop-again returns)
+    Inv-loop μ-loop (λ c. search plain-none) (λ c. search needs) (λ c κs. search needs) (λ c. search needs) (λ c. search needs)
+    (λ c. search plain-more) (λ c. search plain-all))

@@ -22,12 +22,9 @@ loop-holds c = put-begin refl _ _ _
 loop-again : tie.Need-loop-again Inv-loop μ-loop
 loop-again c = put-again escaped escapedAll-snoc (c .before .before .before .before .before .before .loop .inv) (c .before .before .before .before .before .loop-test .taken) (c .before .before .put-escaped .ensures)
 
-returns : tie.Need-returns Inv-loop μ-loop
-returns c = put-end (c .before .loop .inv) (c .loop-test .left)
-
 pub put-each-escaped-spec : {M : Type 1} → statement M
 put-each-escaped-spec =
     tie.close
     (tie.spec
     Inv-loop μ-loop loop-holds (λ c. search needs) (λ c κs. search needs) (λ c. search needs) (λ c. search needs) loop-again (λ c. search needs)
-    returns)
+    (λ c. put-end (c .before .loop .inv) (c .loop-test .left)))

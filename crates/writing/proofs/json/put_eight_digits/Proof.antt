@@ -4,9 +4,9 @@ use borrow.Author.Needs.{needs}
 use Rattle.writing.proofs.json.put_eight_digits.Statement.{statement}
 use Rattle.writing.proofs.json.put_eight_digits.Tie as tie
 
-returns : tie.Need-returns
-returns c = «then» (c .before .before .before .before .before .before .put-four-digits .ensures) (c .before .before .put-four-digits2 .ensures)
-
 pub put-eight-digits-spec : {M : Type 1} → statement M
 put-eight-digits-spec =
-    tie.close (tie.spec (λ c κs. search needs) (λ c κs. search needs) (λ c. search needs) returns)
+    tie.close
+    (tie.spec
+    (λ c κs. search needs) (λ c κs. search needs) (λ c. search needs)
+    (λ c. «then» (c .before .before .before .before .before .before .put-four-digits .ensures) (c .before .before .put-four-digits2 .ensures)))

@@ -23,12 +23,10 @@ loop-holds c = put-begin refl _ _ _
 loop-again : tie.Need-loop-again Inv-loop μ-loop
 loop-again c = put-part escapedAll-append (c .before .before .before .before .before .loop .inv) 16 (omega arith) (c .before .before .put-block-escaped .ensures)
 
-returns : tie.Need-returns Inv-loop μ-loop
-returns c = put-rest escapedAll-append (c .before .before .before .before .before .before .loop .inv) (c .before .before .put-few-escaped .ensures)
-
 pub put-escaped-all-spec : {M : Type 1} → statement M
 put-escaped-all-spec =
     tie.close
     (tie.spec
     Inv-loop μ-loop loop-holds (λ c. search needs) (λ c κs. search needs) (λ c. search needs) (λ c. search needs) loop-again (λ c. search needs)
-    (λ c. search needs) (λ c. search needs) (λ c κs. search needs) (λ c. search needs) returns)
+    (λ c. search needs) (λ c. search needs) (λ c κs. search needs) (λ c. search needs)
+    (λ c. put-rest escapedAll-append (c .before .before .before .before .before .before .loop .inv) (c .before .before .put-few-escaped .ensures)))

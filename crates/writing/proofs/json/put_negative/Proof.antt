@@ -4,8 +4,9 @@ use borrow.Author.Needs.{needs}
 use Rattle.writing.proofs.json.put_negative.Statement.{statement}
 use Rattle.writing.proofs.json.put_negative.Tie as tie
 
-returns : tie.Need-returns
-returns c = cons (c .before .before .before .before .before .before .put .ensures) (c .before .before .put-natural .ensures)
-
 pub put-negative-spec : {M : Type 1} → statement M
-put-negative-spec = tie.close (tie.spec (λ c κs. search needs) (λ c κs. search needs) (λ c. search needs) returns)
+put-negative-spec =
+    tie.close
+    (tie.spec
+    (λ c κs. search needs) (λ c κs. search needs) (λ c. search needs)
+    (λ c. cons (c .before .before .before .before .before .before .put .ensures) (c .before .before .put-natural .ensures)))

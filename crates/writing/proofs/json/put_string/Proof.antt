@@ -10,5 +10,4 @@ unfolding quoted
 returns c = cons (c .before .before .before .before .before .before .before .before .before .before .put .ensures) («then» (c .before .before .before .before .before .before .put-escaped-all .ensures) (c .before .before .put2 .ensures))
 
 pub put-string-spec : {M : Type 1} → statement M
-put-string-spec =
-    tie.close (tie.spec (λ c κs. search needs) (λ c κs. search needs) (λ c κs. search needs) (λ c. search needs) returns)
+put-string-spec = tie.close (tie.spec (λ c κs. search needs) (λ c κs. search needs) (λ c κs. search needs) (λ c. search needs) returns)

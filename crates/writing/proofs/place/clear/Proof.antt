@@ -12,17 +12,9 @@ Inv-loop text₀ from i₀ text i = Clearing text₀ from text i
 abbrev μ-loop : tie.MeasureT-loop
 μ-loop text₀ from i₀ text i = length text₀ - i
 
-loop-holds : tie.Need-loop-holds Inv-loop μ-loop
-loop-holds c = clear-begin (c .args .text .now) (c .args .from)
-
-loop-again : tie.Need-loop-again Inv-loop μ-loop
-loop-again c = clear-again (c .before .loop .inv) (c .loop-test .taken)
-
-returns : tie.Need-returns Inv-loop μ-loop
-returns c = clear-end (c .before .loop .inv) (c .loop-test .left)
-
 pub clear-spec : {M : Type 1} → statement M
 clear-spec =
     tie.close
     (tie.spec
-    Inv-loop μ-loop loop-holds (λ c. search needs) (λ c. search needs) (λ c. search needs) loop-again (λ c. search needs) returns)
+    Inv-loop μ-loop (λ c. clear-begin (c .args .text .now) (c .args .from)) (λ c. search needs) (λ c. search needs) (λ c. search needs)
+    (λ c. clear-again (c .before .loop .inv) (c .loop-test .taken)) (λ c. search needs) (λ c. clear-end (c .before .loop .inv) (c .loop-test .left)))

@@ -12,17 +12,10 @@ Inv-loop words₀ from i₀ words i = Clearing words₀ from words i
 abbrev μ-loop : tie.MeasureT-loop
 μ-loop words₀ from i₀ words i = length words₀ - i
 
-loop-holds : tie.Need-loop-holds Inv-loop μ-loop
-loop-holds c = clear-begin (c .args .words .now) (c .args .from)
-
-loop-again : tie.Need-loop-again Inv-loop μ-loop
-loop-again c = clear-again (c .before .loop .inv) (c .loop-test .taken)
-
-returns : tie.Need-returns Inv-loop μ-loop
-returns c = clear-end (c .before .loop .inv) (c .loop-test .left)
-
 pub clear-words-spec : {M : Type 1} → statement M
 clear-words-spec =
     tie.close
     (tie.spec
-    Inv-loop μ-loop loop-holds (λ c. search needs) (λ c. search needs) (λ c. search needs) (λ c. search needs) loop-again (λ c. search needs) returns)
+    Inv-loop μ-loop (λ c. clear-begin (c .args .words .now) (c .args .from)) (λ c. search needs) (λ c. search needs) (λ c. search needs)
+    (λ c. search needs) (λ c. clear-again (c .before .loop .inv) (c .loop-test .taken)) (λ c. search needs)
+    (λ c. clear-end (c .before .loop .inv) (c .loop-test .left)))

@@ -15,9 +15,6 @@ returns c = closes-none (c .before .before .before .before .before .before .befo
 marked : (c : tie.Joined2) → c .if2 .text ≡ set (c .before .before .before .args .text .now) (c .before .before .before .args .start) (c .before .before .before .args .left)
 marked c = ⊎-elim (λ w. w .1) (λ w. w .1 ∙ sym (set-out _ _ _ (w .0 .left))) (c .if2 .came)
 
-same-length-2 : tie.Need-same-length-2
-same-length-2 c = c .before .before .put3 .kept .0 ∙ ap length (marked (c .before .before .before .before)) ∙ simp length-set
-
 returns-2 : tie.Need-returns-2
 returns-2 c = closes-some (c .before .before .before .before .before .before .before .args .text .now) (c .before .before .before .before .before .before .before .args .left) (c .before .before .before .before .before .if1 .left) (rw (marked (c .before .before .before .before)) at (c .before .before .put3 .ensures))
 
@@ -25,4 +22,5 @@ pub close-spec : {M : Type 1} → statement M
 close-spec =
     tie.close
     (tie.spec
-    (λ c κs. search needs) (λ c κs. search needs) (λ c. search needs) returns (λ c. search needs) (λ c κs. search needs) same-length-2 returns-2)
+    (λ c κs. search needs) (λ c κs. search needs) (λ c. search needs) returns (λ c. search needs) (λ c κs. search needs)
+    (λ c. c .before .before .put3 .kept .0 ∙ ap length (marked (c .before .before .before .before)) ∙ simp length-set) returns-2)

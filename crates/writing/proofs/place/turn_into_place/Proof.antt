@@ -5,18 +5,11 @@ use borrow.Author.Needs.{needs}
 use Rattle.writing.proofs.place.turn_into_place.Statement.{statement}
 use Rattle.writing.proofs.place.turn_into_place.Tie as tie
 
-returns : tie.Need-returns
-returns c = moves-rotated _ _ _ _ (omega arith) (omega arith) (omega arith) (c .before .before .rotate .ensures)
-
-returns-2 : tie.Need-returns-2
-returns-2 c = moves-not-low _ _ _ _ (omega arith) (c .if3 .left)
-
-returns-3 : tie.Need-returns-3
-returns-3 c = moves-not-far _ _ _ _ (omega arith) (c .if2 .left)
-
-returns-4 : tie.Need-returns-4
-returns-4 c = moves-not-over _ _ _ _ (c .if1 .left)
-
 pub turn-into-place-spec : {M : Type 1} → statement M
 turn-into-place-spec =
-    tie.close (tie.spec (λ c κs. search needs) (λ c. search needs) returns returns-2 returns-3 returns-4)
+    tie.close
+    (tie.spec
+    (λ c κs. search needs) (λ c. search needs)
+    (λ c. moves-rotated _ _ _ _ (omega arith) (omega arith) (omega arith) (c .before .before .rotate .ensures))
+    (λ c. moves-not-low _ _ _ _ (omega arith) (c .if3 .left)) (λ c. moves-not-far _ _ _ _ (omega arith) (c .if2 .left))
+    (λ c. moves-not-over _ _ _ _ (c .if1 .left)))

@@ -8,6 +8,4 @@ returns : tie.Need-returns
 returns c = cons (c .before .before .before .before .before .before .before .before .before .before .put-word .ensures) (cons (c .before .before .before .before .before .before .put-word2 .ensures) (c .before .before .put-word3 .ensures))
 
 pub put-record-head-spec : {M : Type 1} → statement M
-put-record-head-spec =
-    tie.close
-    (tie.spec (λ c κs. search needs) (λ c κs. search needs) (λ c κs. search needs) (λ c. search needs) returns)
+put-record-head-spec = tie.close (tie.spec (λ c κs. search needs) (λ c κs. search needs) (λ c κs. search needs) (λ c. search needs) returns)

@@ -14,18 +14,12 @@ Inv-loop text₀ at s next₀ i₀ text next i = Putting (λ (l : List ℕ). l) 
 abbrev μ-loop : tie.MeasureT-loop
 μ-loop text₀ at s next₀ i₀ text next i = length s - i
 
-loop-holds : tie.Need-loop-holds Inv-loop μ-loop
-loop-holds c = put-begin refl _ _ _
-
 loop-again : tie.Need-loop-again Inv-loop μ-loop
 loop-again c = put-again (λ (x : ℕ). x ∷ []) (λ xs x. refl) (c .before .before .before .before .before .before .loop .inv) (c .before .before .before .before .before .loop-test .taken) (c .before .before .put .ensures)
-
-returns : tie.Need-returns Inv-loop μ-loop
-returns c = put-end (c .before .loop .inv) (c .loop-test .left)
 
 pub put-each-spec : {M : Type 1} → statement M
 put-each-spec =
     tie.close
     (tie.spec
-    Inv-loop μ-loop loop-holds (λ c. search needs) (λ c κs. search needs) (λ c. search needs) (λ c. search needs) loop-again (λ c. search needs)
-    returns)
+    Inv-loop μ-loop (λ c. put-begin refl _ _ _) (λ c. search needs) (λ c κs. search needs) (λ c. search needs) (λ c. search needs) loop-again
+    (λ c. search needs) (λ c. put-end (c .before .loop .inv) (c .loop-test .left)))

@@ -17,9 +17,6 @@ Inv-loop text₀ at s i₀ text i = Putting (λ (l : List ℕ). l) text₀ at s 
 abbrev μ-loop : tie.MeasureT-loop
 μ-loop text₀ at s i₀ text i = length s - i
 
-loop-holds : tie.Need-loop-holds Inv-loop μ-loop
-loop-holds c = rw add-zero (put-begin refl _ _ _)
-
 slice-write-text : tie.Need-slice-write-text Inv-loop μ-loop
 slice-write-text c = omega (arith, c .before .before .loop .inv .writes .wrote .long)
 
@@ -28,12 +25,9 @@ loop-again c =
     put-again (λ (x : ℕ). x ∷ []) (λ xs x. refl) (c .before .before .loop .inv) (c .before .loop-test .taken)
     (one-to (c .before .before .loop .text) (c .before .before .before .args .at + c .before .before .loop .i) _ _ (slice-write-text c) (omega arith))
 
-returns : tie.Need-returns Inv-loop μ-loop
-returns c = put-end (c .before .loop .inv) (c .loop-test .left)
-
 pub put-fitting-spec : {M : Type 1} → statement M
 put-fitting-spec =
     tie.close
     (tie.spec
-    Inv-loop μ-loop loop-holds (λ c. search needs) (λ c. search needs) slice-write-text (λ c. search needs) (λ c. search needs) loop-again
-    (λ c. search needs) (λ c. search needs) returns)
+    Inv-loop μ-loop (λ c. rw add-zero (put-begin refl _ _ _)) (λ c. search needs) (λ c. search needs) slice-write-text (λ c. search needs)
+    (λ c. search needs) loop-again (λ c. search needs) (λ c. search needs) (λ c. put-end (c .before .loop .inv) (c .loop-test .left)))
