@@ -16,7 +16,8 @@ use Rattle.rows.specs.Rows.{all, rowsOf}
 use Rattle.rows.specs.Schema.{fieldAt, argumentAt}
 use Rattle.rows.specs.Json.{literalAt}
 use Rattle.rules.specs.Rows.{rowOrNone}
-use Rattle.tables.specs.Defaults.{each, closedBut, closedTo, closed, mark, unmarked, Marked, partsLater, Nested, Defaulted, defaultUnmarked, defaultClosed, fieldUnmarked, argumentUnmarked, fieldDefault, argumentDefault, defaultsClosed}
+use Rattle.tables.specs.Defaults.{eachOf, closedBut, closedTo, closed, defaultClosed, fieldDefault, argumentDefault, defaultsClosed}
+use Rattle.tables.specs.Marking.{mark, unmarked, Marked, partsLater, Nested, Defaulted, defaultUnmarked, fieldUnmarked, argumentUnmarked}
 use Rattle.rows.specs.declared.layout.Range.{Range}
 use Rattle.rows.specs.declared.layout.Optional.{Optional}
 use Rattle.rows.specs.declared.layout.Optional.the-variants.{Absent, Row}
@@ -35,7 +36,7 @@ module _ (literals : List ℕ) (nested : Nested literals) where
   -- two tests that agree on the rows of a later range agree on the range
   each-same : (p q : ℕ → Bool) (row : ℕ) (rows : Range)
       → ((eqb (rows .count) 0 || ltb row (rows .first)) && leb (rows .first + rows .count) count) ≡ true
-      → ((k : ℕ) → row < k → k < count → p k ≡ q k) → each p rows ≡ each q rows
+      → ((k : ℕ) → row < k → k < count → p k ≡ q k) → eachOf p rows ≡ eachOf q rows
   each-same p q row rows l h =
       let later = and-left (eqb (rows .count) 0 || ltb row (rows .first)) (leb (rows .first + rows .count) count) l in
       let end : rows .first + rows .count ≤ count =

@@ -18,7 +18,8 @@ use Rattle.rules.specs.Json.{nodeRow, nodeKeyRow, nodeKeysDiffer, literalRow, l
 use Rattle.rules.specs.Answers.{answerRow, answerNamesDiffer, rootAnswer}
 use Rattle.tables.specs.Tables.{Tables, nameCount, refCount, typeCount, memberCount, fieldCount, argumentCount, setCount, selectionCount, givenCount, fragmentCount, nodeCount, literalCount, variableCount, answerCount}
 use Rattle.tables.specs.Rules.{rowsLawful, rowsFor, holdsAt}
-use Rattle.tables.specs.Defaults.{defaultsClosed, Nested, Defaulted}
+use Rattle.tables.specs.Defaults.{defaultsClosed}
+use Rattle.tables.specs.Marking.{Nested, Defaulted}
 use Rattle.tables.specs.Lawful.{lawful}
 use Rattle.tables.specs.declared.rulebook.Rule.{Rule}
 use Rattle.tables.specs.declared.rulebook.Rule.the-variants.{Size, Schema, Document, Value}

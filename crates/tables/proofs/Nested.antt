@@ -9,7 +9,7 @@ use Rattle.rows.specs.Json.{literalAt, literalKey}
 use Rattle.rules.specs.Rows.{isRow, rowOrNone, within}
 use Rattle.rules.specs.Schema.{argumentLawful, fieldLawful, fieldRow, argumentRow}
 use Rattle.rules.specs.Json.{literalLawful, literalRow}
-use Rattle.tables.specs.Defaults.{partsLater}
+use Rattle.tables.specs.Marking.{partsLater}
 use Rattle.rows.specs.declared.layout.Optional.{Optional}
 use Rattle.rows.specs.declared.schema.Field.{Field}
 use Rattle.rows.specs.declared.json.Literal.{Literal}

@@ -1,4 +1,4 @@
--- Lawful tables and lawful buffers: what every public entry asks before anything else.
+-- Lawful tables: what every public entry asks before anything else. Lawful buffers and choices: what a run asks besides.
 use mathlib.Core.Bool.{Bool, _&&_, cond}
 use Prim.Native.Nat.{ℕ}
 use lib.Dec.{leb}
@@ -11,7 +11,7 @@ use Rattle.tables.specs.Defaults.{defaultsClosed}
 unfoldable pub lawful : Tables → Bool
 lawful T = rowsLawful T && defaultsClosed (T .fields) (T .arguments) (T .literals)
 
--- "1: a table or buffer breaks a rule above". A table check is lent no buffer
+-- 1 where "a table or buffer breaks a rule above", and 0 otherwise. A table check is lent no buffer
 unfoldable pub tableCode : Tables → ℕ
 tableCode T = cond (lawful T) 0 1
 

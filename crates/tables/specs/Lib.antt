@@ -4,5 +4,6 @@ pub mod Defaults
 pub mod Lawful
 pub mod Broken
 -- What the code goes by. No public contract cites it.
+pub mod Marking
 pub mod Chapters
 pub mod ByTable

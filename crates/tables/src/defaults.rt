@@ -7,7 +7,8 @@ ghost use Rattle.rows.specs.Layout.{fieldWidth, argumentWidth};
 ghost use Rattle.rows.specs.Limits.{mostLiterals};
 ghost use Rattle.rows.specs.Rows.{rowsOf, all};
 ghost use Rattle.rows.specs.Json.{literalAt};
-ghost use Rattle.tables.specs.Defaults.{each, closedBut, mark, unmarked, Marked, Nested, Defaulted, defaultUnmarked, fieldUnmarked, argumentUnmarked, defaultsClosed};
+ghost use Rattle.tables.specs.Defaults.{eachOf, closedBut, defaultsClosed};
+ghost use Rattle.tables.specs.Marking.{mark, unmarked, Marked, Nested, Defaulted, defaultUnmarked, fieldUnmarked, argumentUnmarked};
 use rows::json::LITERAL_WIDTH;
 use rows::json::Literal;
 use rows::json::literal_at;
@@ -31,7 +32,7 @@ fn is_unmarked(marks: &[u8], row: usize) -> bool
 }
 
 fn parts_are_unmarked(marks: &[u8], rows: Range) -> bool
-    ensures { λ r. ⌜ r ≡ each (unmarked (now (marks .entry))) rows ⌝ }
+    ensures { λ r. ⌜ r ≡ eachOf (unmarked (now (marks .entry))) rows ⌝ }
 {
     let first = rows.first as usize;
     let count = rows.count;

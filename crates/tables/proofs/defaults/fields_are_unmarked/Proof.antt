@@ -4,7 +4,7 @@ use mathlib.Core.Bool.{true}
 use Prim.Native.Nat.{_≤_, _-_, _+_}
 use borrow.Author.Needs.{needs}
 use Rattle.rows.specs.Rows.{all}
-use Rattle.tables.specs.Defaults.{fieldUnmarked}
+use Rattle.tables.specs.Marking.{fieldUnmarked}
 use Rattle.rows.proofs.Every.{all-none, all-more, all-broken, all-ended}
 use Rattle.tables.proofs.defaults.fields_are_unmarked.Statement.{statement}
 use Rattle.tables.proofs.defaults.fields_are_unmarked.Tie as tie

@@ -2,7 +2,7 @@
 use Prim.Native.Nat.{_≤_}
 use Rattle.rows.specs.Layout.{literalWidth}
 use Rattle.rows.specs.Rows.{rowsOf}
-use Rattle.tables.specs.Defaults.{Marked}
+use Rattle.tables.specs.Marking.{Marked}
 use Rattle.tables.proofs.Closed.{mark-none, mark-turn, mark-end}
 use borrow.Author.Needs.{needs}
 use native.Mathlib.Omega.{arith}

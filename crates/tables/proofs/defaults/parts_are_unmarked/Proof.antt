@@ -4,7 +4,7 @@ use mathlib.Core.Bool.{true}
 use Prim.Native.Nat.{_≤_, _-_, _+_}
 use borrow.Author.Needs.{needs}
 use Rattle.rows.specs.Rows.{all}
-use Rattle.tables.specs.Defaults.{unmarked}
+use Rattle.tables.specs.Marking.{unmarked}
 use Rattle.rows.proofs.Every.{every}
 use Rattle.tables.proofs.defaults.parts_are_unmarked.Statement.{statement}
 use Rattle.tables.proofs.defaults.parts_are_unmarked.Tie as tie
