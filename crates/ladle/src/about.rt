@@ -1,11 +1,11 @@
 // What a rule is about: its table, and what of it.
 use table_file::layout;
 ghost use Prim.Native.Nat.{_<_};
-use tables::rulebook::DocumentRule;
-use tables::rulebook::Rule;
-use tables::rulebook::SchemaRule;
-use tables::rulebook::SizeRule;
-use tables::rulebook::ValueRule;
+use tables::rule::DocumentRule;
+use tables::rule::Rule;
+use tables::rule::SchemaRule;
+use tables::rule::SizeRule;
+use tables::rule::ValueRule;
 
 // How long a table is and which type is the root are said of no row. A rule of a row is broken by the numbers in the row itself, by
 // bytes of the pool or by an earlier row, or by the rows of its range, through which it goes.

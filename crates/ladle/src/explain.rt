@@ -12,10 +12,10 @@ use table_file::layout::Words;
 use table_file::layout::row_start;
 use table_file::line_of_row;
 ghost use Prim.Native.Nat.{_<_};
-use tables::broken::Broken;
-use tables::rulebook::RULE_COUNT;
-use tables::rulebook::Rule;
-use tables::rulebook::rule_at;
+use rulebook::ask::RULE_COUNT;
+use rulebook::ask::rule_at;
+use rulebook::broken::Broken;
+use tables::rule::Rule;
 use verdict::entries::first_broken;
 
 // A rule that goes through ranges is asked only where no earlier rule is broken: it is the earlier ones that bound how long a range is,

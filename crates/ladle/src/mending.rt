@@ -7,8 +7,8 @@ use table_file::layout::Words;
 use table_file::layout::row_start;
 use table_file::layout::row_width;
 ghost use Prim.Native.Nat.{_<_};
-use tables::broken::Broken;
-use tables::rulebook::Rule;
+use rulebook::broken::Broken;
+use tables::rule::Rule;
 use verdict::entries::first_broken;
 
 // Where a word lies among those of all tables.

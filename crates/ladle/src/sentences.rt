@@ -2,11 +2,11 @@
 use crate::lists::line;
 use crate::say;
 use rows::limits;
-use tables::rulebook::DocumentRule;
-use tables::rulebook::Rule;
-use tables::rulebook::SchemaRule;
-use tables::rulebook::SizeRule;
-use tables::rulebook::ValueRule;
+use tables::rule::DocumentRule;
+use tables::rule::Rule;
+use tables::rule::SchemaRule;
+use tables::rule::SizeRule;
+use tables::rule::ValueRule;
 
 pub(crate) fn print_table(table: usize) {
     say::words(line(

@@ -17,13 +17,13 @@ use Rattle.rules.specs.Answers.{answerRow, answerNamesDiffer, rootAnswer}
 use Rattle.tables.specs.Tables.{Tables, nameCount, refCount, typeCount, memberCount, fieldCount, argumentCount, setCount, selectionCount, givenCount, fragmentCount, nodeCount, literalCount, variableCount, answerCount}
 use Rattle.tables.specs.Rules.{sizeHolds, obeyed, rowsLawful}
 use Rattle.tables.specs.ByTable.{conj, schemaSizes, documentSizes, valuesSizes, nameHolds, fieldHolds, typeHolds, selectionHolds, setHolds, nodeHolds, literalHolds, schemaTests, documentTests, valuesTests, byTable}
-use Rattle.tables.specs.declared.rulebook.Rule.{Rule}
-use Rattle.tables.specs.declared.rulebook.Rule.the-variants.{Size, Schema, Document, Value}
-use Rattle.tables.specs.declared.rulebook.SizeRule.{SizeRule}
-use Rattle.tables.specs.declared.rulebook.SizeRule.the-variants as size
-use Rattle.tables.specs.declared.rulebook.SchemaRule.the-variants as schema
-use Rattle.tables.specs.declared.rulebook.DocumentRule.the-variants as document
-use Rattle.tables.specs.declared.rulebook.ValueRule.the-variants as value
+use Rattle.tables.specs.declared.rule.Rule.{Rule}
+use Rattle.tables.specs.declared.rule.Rule.the-variants.{Size, Schema, Document, Value}
+use Rattle.tables.specs.declared.rule.SizeRule.{SizeRule}
+use Rattle.tables.specs.declared.rule.SizeRule.the-variants as size
+use Rattle.tables.specs.declared.rule.SchemaRule.the-variants as schema
+use Rattle.tables.specs.declared.rule.DocumentRule.the-variants as document
+use Rattle.tables.specs.declared.rule.ValueRule.the-variants as value
 use Rattle.rows.proofs.Every.{and-false, and-left, and-right, all-at, all-each}
 use Rattle.rules.proofs.Words.{same-truth}
 use Rattle.tables.proofs.Chained.{turned-true, turned-false, conj-at}

@@ -21,12 +21,12 @@ use Rattle.tables.specs.Rules.{rowsLawful, rowsFor, holdsAt}
 use Rattle.tables.specs.Defaults.{defaultsClosed}
 use Rattle.tables.specs.Marking.{Nested, Defaulted}
 use Rattle.tables.specs.Lawful.{lawful}
-use Rattle.tables.specs.declared.rulebook.Rule.{Rule}
-use Rattle.tables.specs.declared.rulebook.Rule.the-variants.{Size, Schema, Document, Value}
-use Rattle.tables.specs.declared.rulebook.SizeRule.the-variants as size
-use Rattle.tables.specs.declared.rulebook.SchemaRule.the-variants as schema
-use Rattle.tables.specs.declared.rulebook.DocumentRule.the-variants as document
-use Rattle.tables.specs.declared.rulebook.ValueRule.the-variants as value
+use Rattle.tables.specs.declared.rule.Rule.{Rule}
+use Rattle.tables.specs.declared.rule.Rule.the-variants.{Size, Schema, Document, Value}
+use Rattle.tables.specs.declared.rule.SizeRule.the-variants as size
+use Rattle.tables.specs.declared.rule.SchemaRule.the-variants as schema
+use Rattle.tables.specs.declared.rule.DocumentRule.the-variants as document
+use Rattle.tables.specs.declared.rule.ValueRule.the-variants as value
 use Rattle.rows.proofs.Every.{and-left, and-right}
 use Rattle.tables.proofs.Lawful.{holds-at}
 use Rattle.tables.proofs.Nested.{literal-parts, field-default, argument-default}

@@ -12,9 +12,9 @@ use Rattle.tables.specs.Tables.{Tables, nodeCount}
 use Rattle.tables.specs.Rules.{rules, ruleAt, rowsFor, holdsAt, obeyed, rowsLawful}
 use Rattle.tables.specs.Defaults.{defaultsClosed}
 use Rattle.tables.specs.Lawful.{lawful, tableCode}
-use Rattle.tables.specs.declared.rulebook.Rule.{Rule}
-use Rattle.tables.specs.declared.rulebook.Rule.the-variants as rule
-use Rattle.tables.specs.declared.rulebook.ValueRule.the-variants as value
+use Rattle.tables.specs.declared.rule.Rule.{Rule}
+use Rattle.tables.specs.declared.rule.Rule.the-variants as rule
+use Rattle.tables.specs.declared.rule.ValueRule.the-variants as value
 use Rattle.tables.proofs.Numbered.{number, numbered}
 use Rattle.rows.proofs.Every.{all-at, all-each, falsified, verified}
 

@@ -1,6 +1,5 @@
 pub mod ByTable
 pub mod Chained
-pub mod Chapters
 pub mod Closed
 pub mod Facts
 pub mod Lawful

@@ -7,16 +7,16 @@ use native.Mathlib.Omega.{arith}
 use denote.Enum.Declared.{tagOf}
 use lib.ListN.{length, getD, List·getD-map}
 use Rattle.tables.specs.Rules.{sizeRules, sizeRule, schemaRules, schemaRule, documentRules, documentRule, valueRules, valueRule, ruleAt}
-use Rattle.tables.specs.declared.rulebook.Rule.{Rule}
-use Rattle.tables.specs.declared.rulebook.Rule.the-variants as rule
-use Rattle.tables.proofs.rulebook.SizeRule.{the-type as the-size-type}
-use Rattle.tables.proofs.rulebook.SchemaRule.{the-type as the-schema-type}
-use Rattle.tables.proofs.rulebook.DocumentRule.{the-type as the-document-type}
-use Rattle.tables.proofs.rulebook.ValueRule.{the-type as the-value-type}
-use Rattle.tables.specs.declared.rulebook.SizeRule.the-variants as size
-use Rattle.tables.specs.declared.rulebook.SchemaRule.the-variants as schema
-use Rattle.tables.specs.declared.rulebook.DocumentRule.the-variants as document
-use Rattle.tables.specs.declared.rulebook.ValueRule.the-variants as value
+use Rattle.tables.specs.declared.rule.Rule.{Rule}
+use Rattle.tables.specs.declared.rule.Rule.the-variants as rule
+use Rattle.tables.proofs.rule.SizeRule.{the-type as the-size-type}
+use Rattle.tables.proofs.rule.SchemaRule.{the-type as the-schema-type}
+use Rattle.tables.proofs.rule.DocumentRule.{the-type as the-document-type}
+use Rattle.tables.proofs.rule.ValueRule.{the-type as the-value-type}
+use Rattle.tables.specs.declared.rule.SizeRule.the-variants as size
+use Rattle.tables.specs.declared.rule.SchemaRule.the-variants as schema
+use Rattle.tables.specs.declared.rule.DocumentRule.the-variants as document
+use Rattle.tables.specs.declared.rule.ValueRule.the-variants as value
 
 -- a number that is none of those below b, and not b
 pub past : (b k : ℕ) → b ≤ k → (k ≡ b → ⊥) → b + 1 ≤ k

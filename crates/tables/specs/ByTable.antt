@@ -16,7 +16,7 @@ use Rattle.rules.specs.Json.{nodeRow, nodeKeyRow, nodeKeysDiffer, literalRow, l
 use Rattle.rules.specs.Answers.{answerRow, answerNamesDiffer, rootAnswer}
 use Rattle.tables.specs.Tables.{Tables, nameCount, refCount, literalCount}
 use Rattle.tables.specs.Rules.{sizeHolds}
-use Rattle.tables.specs.declared.rulebook.SizeRule.the-variants as size
+use Rattle.tables.specs.declared.rule.SizeRule.the-variants as size
 use Rattle.tables.specs.declared.values.Seen.{Seen}
 
 -- every test of a list passes

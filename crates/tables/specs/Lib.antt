@@ -2,8 +2,6 @@ pub mod Tables
 pub mod Rules
 pub mod Defaults
 pub mod Lawful
-pub mod Broken
 -- What the code goes by. No public contract cites it.
 pub mod Marking
-pub mod Chapters
 pub mod ByTable

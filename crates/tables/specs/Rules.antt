@@ -14,16 +14,16 @@ use Rattle.rules.specs.Document.{setRow, selectionRow, givenRow, givenDiffer, f
 use Rattle.rules.specs.Json.{nodeRow, nodeKeyRow, nodeKeysDiffer, literalRow, literalKeysDiffer, variableRow, variableNameNew}
 use Rattle.rules.specs.Answers.{answerRow, answerNamesDiffer, rootAnswer}
 use Rattle.tables.specs.Tables.{Tables, nameCount, refCount, typeCount, memberCount, fieldCount, argumentCount, setCount, selectionCount, givenCount, fragmentCount, nodeCount, literalCount, variableCount, answerCount}
-use Rattle.tables.specs.declared.rulebook.SizeRule.{SizeRule}
-use Rattle.tables.specs.declared.rulebook.SizeRule.the-variants as size
-use Rattle.tables.specs.declared.rulebook.SchemaRule.{SchemaRule}
-use Rattle.tables.specs.declared.rulebook.SchemaRule.the-variants as schema
-use Rattle.tables.specs.declared.rulebook.DocumentRule.{DocumentRule}
-use Rattle.tables.specs.declared.rulebook.DocumentRule.the-variants as document
-use Rattle.tables.specs.declared.rulebook.ValueRule.{ValueRule}
-use Rattle.tables.specs.declared.rulebook.ValueRule.the-variants as value
-use Rattle.tables.specs.declared.rulebook.Rule.{Rule}
-use Rattle.tables.specs.declared.rulebook.Rule.the-variants as rule
+use Rattle.tables.specs.declared.rule.SizeRule.{SizeRule}
+use Rattle.tables.specs.declared.rule.SizeRule.the-variants as size
+use Rattle.tables.specs.declared.rule.SchemaRule.{SchemaRule}
+use Rattle.tables.specs.declared.rule.SchemaRule.the-variants as schema
+use Rattle.tables.specs.declared.rule.DocumentRule.{DocumentRule}
+use Rattle.tables.specs.declared.rule.DocumentRule.the-variants as document
+use Rattle.tables.specs.declared.rule.ValueRule.{ValueRule}
+use Rattle.tables.specs.declared.rule.ValueRule.the-variants as value
+use Rattle.tables.specs.declared.rule.Rule.{Rule}
+use Rattle.tables.specs.declared.rule.Rule.the-variants as rule
 
 -- How many rows a table has, all of them whole. What document 01 sets no limit to has as many rows as words can number.
 abbrev pub sizeHolds : SizeRule → Tables → Bool

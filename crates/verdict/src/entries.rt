@@ -1,21 +1,21 @@
 // The public entries, and the rules one by one, over what a table file holds.
 ghost use mathlib.Core.Path.{_≡_};
-ghost use Rattle.tables.specs.Broken.{FirstBroken};
+ghost use Rattle.rulebook.specs.Broken.{FirstBroken};
 ghost use Rattle.tables.specs.Lawful.{tableCode};
 ghost use Rattle.graphql.specs.Depth.{depthReport};
 ghost use Rattle.introspection.specs.MaxDepth.{Answers};
 ghost use Rattle.verdict.specs.Held.{held};
 use introspection::max_depth::DepthAnswer;
 use introspection::max_depth::depth_check;
+use rulebook::broken::Broken;
+use rulebook::broken::first_broken as first_broken_of;
 use table_file::layout;
 use table_file::layout::Sizes;
 use table_file::pool_bytes;
 use table_file::root;
 use table_file::table;
-use tables::broken::Broken;
-use tables::broken::first_broken as first_broken_of;
 use tables::check::table_check;
-use tables::rulebook::Rule;
+use tables::rule::Rule;
 
 // The table check's answer.
 pub fn code(pool: &[u8], words: &[u32], sizes: Sizes) -> u32
