@@ -1,9 +1,9 @@
 -- Parts that were written exactly get their brackets exactly. Within the buffer the left one is laid over the first comma, and the right one comes
 -- where the parts ended; past its end nothing is laid over. Assumes nothing.
-use mathlib.Core.Path.{_≡_, refl, sym, ap, _∙_}
+use mathlib.Core.Path.{_≡_, refl, sym, _∙_}
 use mathlib.Core.Bool.{Bool, true, false, cond}
 use mathlib.Core.List.{List, [], _∷_, _++_, append-nil}
-use Prim.Native.Nat.{ℕ, zero, suc, _+_, _-_, _≤_, _<_, min}
+use Prim.Native.Nat.{ℕ, suc, _+_, _-_, _≤_, _<_, min}
 use native.Mathlib.Omega.{arith}
 use native.Mathlib.Decide.{decLe}
 use borrow.Author.Tests.{eq-eqb, ne-eqb}
@@ -63,7 +63,9 @@ module _ (l r : ℕ) (t : List ℕ) (s x : ℕ) (xs : List ℕ) where
   unfolding closedEnd bracketed saturated
   end-past p =
       rw (length-written t s (x ∷ xs))
-      (either (eqb ended s) (min (ended + 2) (suc (length t))) (min (ended + 1) (suc (length t))) (saturated t s (bracketed l r (x ∷ xs))) (omega arith) (omega arith))
+      (either (eqb ended s) (min (ended + 2) (suc (length t))) (min (ended + 1) (suc (length t))) (saturated t s (bracketed l r (x ∷ xs)))
+      (omega arith)
+      (omega arith))
 
   end-within : s < length t → closedEnd l r (written t s (x ∷ xs)) s ended ≡ saturated t s (bracketed l r (x ∷ xs))
   unfolding closedEnd bracketed saturated

@@ -5,11 +5,11 @@ use mathlib.Core.Option.{Option, none, some}
 use Prim.Native.Nat.{ℕ}
 use native.Mathlib.Omega.{arith}
 use lib.ListN.{length}
-use Rattle.graphql.specs.Run.{Choices, M, Res, pure, halt}
+use Rattle.graphql.specs.Run.{M, pure, halt}
 use Rattle.graphql.specs.Json.{Json}
 use Rattle.values.specs.Put.{ended, Ends, Puts, PutNodeDetermined}
 use Rattle.values.specs.declared.node.Put.{Put}
-use Rattle.values.specs.declared.node.Put.the-variants.{At, TooFar}
+use Rattle.values.specs.declared.node.Put.the-variants.{At}
 
 -- a run ends in one way
 ended-once : (v v' : Option Json) → ended v [] ≡ ended v' [] → v ≡ v'

@@ -1,6 +1,7 @@
 pub mod Closing
 pub mod Determined
 pub mod Ends
+pub mod Going
 pub mod Labels
 pub mod Lawful
 pub mod Nodes

@@ -1,10 +1,9 @@
 -- The parts of a container: their values one after another, and their text with a label before each. Assumes nothing.
-use mathlib.Core.Path.{_≡_, refl, sym, ap, _∙_}
+use mathlib.Core.Path.{_≡_, refl}
 use mathlib.Core.Bool.{Bool, true, false}
 use mathlib.Core.List.{List, [], _∷_, _++_, map, append-assoc, append-nil}
 use mathlib.Core.Option.{some}
 use Prim.Native.Nat.{ℕ, zero, suc}
-use native.Mathlib.Omega.{arith}
 use Rattle.rows.specs.Strings.{textOf}
 use Rattle.rows.specs.Json.{nodeKey}
 use Rattle.writing.specs.Escape.{quoted}
@@ -69,7 +68,8 @@ module _ (pool nodes : List ℕ) where
   parts-more false row rows j js = refl
   parts-more true row rows j js = rw (append-assoc (quoted (key row)) (58 ∷ []) (print j ++ printMembers (members (map key rows) (map some js))))
 
-  pub print-made : (keyed : Bool) (rows : List ℕ) (js : List Json) → print (made keyed rows js) ≡ bracketed (left keyed) (right keyed) (partsText keyed rows js)
+  pub print-made : (keyed : Bool) (rows : List ℕ) (js : List Json)
+      → print (made keyed rows js) ≡ bracketed (left keyed) (right keyed) (partsText keyed rows js)
   unfolding made partsText print
   print-made false rows js = refl
   print-made true rows js = refl
@@ -93,7 +93,8 @@ module _ (pool nodes : List ℕ) where
         go false = rw e
         go true = rw e
 
-  pub container-full : (inside : ℕ → M Json) (keyed : Bool) (rows : List ℕ) (c : Choices) → containerOf pool nodes zero inside keyed rows c ≡ stop tooFar []
+  pub container-full : (inside : ℕ → M Json) (keyed : Bool) (rows : List ℕ) (c : Choices)
+      → containerOf pool nodes zero inside keyed rows c ≡ stop tooFar []
   unfolding containerOf arrayOf objectOf opened halt
   container-full inside false rows c = refl
   container-full inside true rows c = refl

@@ -1,7 +1,7 @@
 -- The sort of a node is the sort of its value: a value that is there is the variant's own, with whatever parts. Assumes nothing.
 use mathlib.Core.Path.{_≡_, refl, sym}
 use mathlib.Core.Bool.{true, false}
-use mathlib.Core.List.{List, [], _∷_, map}
+use mathlib.Core.List.{List, map}
 use mathlib.Core.Option.{some}
 use Prim.Native.Nat.{ℕ, zero, suc, _+_, _*_}
 use native.Mathlib.Omega.{arith}
@@ -45,7 +45,9 @@ module _ (j : Json) (log : Log) (c c' : Choices) where
     by-variant (node.String text) e = plainly (json.string (textOf pool text)) e
     by-variant (node.Array rows) e = together room (inOrder inside (rowsIn rows)) (λ js. json.array (json.items js)) (λ js. refl) e
     by-variant (node.Object rows) e =
-        together room (inOrder inside (rowsIn rows)) (λ js. json.object (json.members (map (λ row. textOf pool (nodeKey nodes row)) (rowsIn rows)) (map some js))) (λ js. refl) e
+        together room (inOrder inside (rowsIn rows))
+        (λ js. json.object (json.members (map (λ row. textOf pool (nodeKey nodes row)) (rowsIn rows)) (map some js)))
+        (λ js. refl) e
     by-variant node.Unknown e = plainly json.null e
 
 pub nodeSorted : NodeSorted

@@ -43,7 +43,8 @@ nodeSort node.Unknown = defined.aNull
 -- it is the sort of the value that the definition gives the node, whatever room there is
 abbrev pub NodeSorted : Type 0
 NodeSorted =
-    (pool nodes : List ℕ) (room row : ℕ) (j : Json) (log : Log) (c c' : Choices) → nodeValue pool nodes room row c ≡ done j log c' → nodeSort (nodeAt nodes row) ≡ sortOf j
+    (pool nodes : List ℕ) (room row : ℕ) (j : Json) (log : Log) (c c' : Choices) → nodeValue pool nodes room row c ≡ done j log c'
+    → nodeSort (nodeAt nodes row) ≡ sortOf j
 
 -- how the code says what the definition says
 abbrev pub said : defined.Sort → Sort

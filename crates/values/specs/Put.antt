@@ -36,7 +36,8 @@ shapeOf (node.Array rows) = Container (record { keyed = false; rows = rows })
 shapeOf (node.Object rows) = Container (record { keyed = true; rows = rows })
 shapeOf node.Unknown = Plain
 
--- What the walk through nodes rests on, and lawful tables give: the parts of a container have numbers that add up.
+-- What the walk through nodes rests on, and lawful tables give: the parts of a container are among the first 4,096 rows, so that their numbers are
+-- words.
 pub record Parted (nodes : List ℕ) : Type 0 where
   pub within : (row : ℕ) (parts : Parts) → shapeOf (nodeAt nodes row) ≡ Container parts → parts .rows .first + parts .rows .count ≤ mostNodes
 
@@ -62,13 +63,13 @@ unfoldable pub ended : Option Json → M Json
 ended none = halt tooFar
 ended (some j) = pure j
 
--- The text of the value was written from `at` on, and the position is the one after it. Where it is too far the buffer is as long as it was, and
--- what stands in it is nobody's.
+-- the text of the value was written from `at` on, and the position is the one after it
 pub record PutsText (j : Json) (before : List ℕ) (at : ℕ) (r : Put) (after : List ℕ) : Type 0 where
   pub end : ℕ
   pub is : r ≡ At end
   pub writes : Writes before after at end (print j)
 
+-- it was too far: the buffer is as long as it was, and what stands in it is nobody's
 pub record GaveUp (before : List ℕ) (r : Put) (after : List ℕ) : Type 0 where
   pub is : r ≡ TooFar
   pub long : length after ≡ length before
@@ -77,6 +78,7 @@ abbrev pub Ends : Option Json → (before : List ℕ) (at : ℕ) (r : Put) (afte
 Ends none before at r after = GaveUp before r after
 Ends (some j) before at r after = PutsText j before at r after
 
+-- what a call came to that was to write the value of `m`
 pub record Puts (m : M Json) (before : List ℕ) (at : ℕ) (r : Put) (after : List ℕ) : Type 0 where
   pub value : Option Json
   pub is : (c : Choices) → m c ≡ ended value c
@@ -98,8 +100,8 @@ module _ (pool nodes : List ℕ) where
   abbrev pub PutsNode : (room row : ℕ) (before : List ℕ) (at : ℕ) (r : Put) (after : List ℕ) → Type 0
   PutsNode room row before at r after = Puts (nodeValue pool nodes room row) before at r after
 
--- "Prove that two results allowed by it are equal": they are, and so are the buffers where the value is there. Where it is too far the buffers are as long
--- as each other, and what stands in them is left open.
+-- "Prove that two results allowed by it are equal": they are, and so are the buffers where the value is there. Where it is too far the
+-- buffers are as long as each other, and what stands in them is left open.
 abbrev pub PutNodeDetermined : Type 0
 PutNodeDetermined =
     (pool nodes : List ℕ) (room row : ℕ) (before : List ℕ) (at : ℕ) (r r' : Put) (after after' : List ℕ)

@@ -93,8 +93,8 @@ fn put_container(
     while i < count {
         let row = first + i;
         let value = put_label(pool, nodes, text, next, keyed, row);
-        let put = put_node(pool, nodes, text, value, room - 1, row);
-        let Put::At(end) = put else {
+        let written = put_node(pool, nodes, text, value, room - 1, row);
+        let Put::At(end) = written else {
             return Put::TooFar;
         };
         next = end;

@@ -4,7 +4,8 @@ use borrow.Fn.Kinds.{In}
 use borrow.Fn.PlainCycle.{Measures, is, falls, and}
 use borrow.Author.Needs.{needs}
 use Rattle.graphql.specs.Values.{nodeValue}
-use Rattle.values.proofs.Walk.{Going, walking}
+use Rattle.values.proofs.Going.{Going}
+use Rattle.values.proofs.Walk.{walking}
 use Rattle.values.proofs.node.put_container.Reads as put-container
 use Rattle.values.proofs.node.put_container.Kinds as put-container-kinds
 use Rattle.values.proofs.node.+put_container+put_node.Lts-put_container as put-container-lts
