@@ -1,0 +1,10 @@
+pub mod Closing
+pub mod Determined
+pub mod Ends
+pub mod Going
+pub mod Labels
+pub mod Lawful
+pub mod Nodes
+pub mod Parts
+pub mod Sorted
+pub mod Walk

@@ -1,0 +1,19 @@
+-- A comma, and with a key its string and a colon behind it, are one text. Assumes nothing.
+use borrow.Author.Needs.{needs}
+use Rattle.values.proofs.Labels.{labels}
+use Rattle.values.proofs.node.put_label.Statement.{statement}
+use Rattle.values.proofs.node.put_label.Tie as tie
+
+pub put-label-spec : {M : Type 1} → statement M
+put-label-spec =
+    tie.close
+    (tie.spec
+    (λ c κs. search needs)
+    (λ c κs. search needs)
+    (λ c κs. search needs)
+    (λ c κs. search needs)
+    (λ c κs. search needs)
+    (λ c. search needs)
+    (λ c. search labels)
+    (λ c. search needs)
+    (λ c. search labels))
