@@ -1,4 +1,3 @@
--- Assumes nothing.
 use borrow.Author.Tests.{ne-eqb}
 use Rattle.rows.proofs.answers.answer_of.Statement.{statement}
 use Rattle.rows.proofs.answers.answer_of.Tie as tie

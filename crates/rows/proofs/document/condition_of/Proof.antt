@@ -1,4 +1,3 @@
--- Assumes nothing.
 use borrow.Author.Tests.{eq-eqb, ne-eqb}
 use borrow.Author.Needs.{needs}
 use Rattle.rows.proofs.document.condition_of.Statement.{statement}

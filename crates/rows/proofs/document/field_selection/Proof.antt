@@ -1,4 +1,3 @@
--- Assumes nothing.
 use Rattle.rows.specs.Document.{fieldSelection}
 use borrow.Author.Needs.{needs}
 use Rattle.rows.proofs.document.field_selection.Statement.{statement}

@@ -1,4 +1,3 @@
--- Assumes nothing.
 use Rattle.rows.specs.Document.{fragmentAt}
 use borrow.Author.Needs.{needs}
 use Rattle.rows.proofs.document.fragment_at.Statement.{statement}

@@ -1,4 +1,3 @@
--- Assumes nothing.
 use Rattle.rows.specs.Document.{inlineSelection}
 use borrow.Author.Needs.{needs}
 use Rattle.rows.proofs.document.inline_selection.Statement.{statement}

@@ -1,4 +1,3 @@
--- Assumes nothing.
 use Rattle.rows.specs.Document.{selectionAt}
 use borrow.Author.Needs.{needs}
 use Rattle.rows.proofs.document.selection_at.Statement.{statement}

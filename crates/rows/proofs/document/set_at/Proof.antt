@@ -1,4 +1,3 @@
--- Assumes nothing.
 use Rattle.rows.specs.Document.{setAt}
 use borrow.Author.Needs.{needs}
 use Rattle.rows.proofs.document.set_at.Statement.{statement}

@@ -1,4 +1,3 @@
--- Assumes nothing.
 use Rattle.rows.specs.Document.{spreadSelection}
 use borrow.Author.Needs.{needs}
 use Rattle.rows.proofs.document.spread_selection.Statement.{statement}

@@ -1,4 +1,3 @@
--- Assumes nothing.
 use Rattle.rows.specs.Json.{literalAt}
 use borrow.Author.Needs.{needs}
 use Rattle.rows.proofs.json.literal_at.Statement.{statement}

@@ -1,4 +1,3 @@
--- Assumes nothing.
 use borrow.Author.Tests.{ne-eqb}
 use Rattle.rows.proofs.json.literal_of.Statement.{statement}
 use Rattle.rows.proofs.json.literal_of.Tie as tie

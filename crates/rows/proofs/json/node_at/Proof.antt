@@ -1,4 +1,3 @@
--- Assumes nothing.
 use Rattle.rows.specs.Json.{nodeAt}
 use borrow.Author.Needs.{needs}
 use Rattle.rows.proofs.json.node_at.Statement.{statement}

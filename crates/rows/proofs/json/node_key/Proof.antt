@@ -1,4 +1,3 @@
--- Assumes nothing.
 use Rattle.rows.specs.Json.{nodeKey}
 use borrow.Author.Needs.{needs}
 use Rattle.rows.proofs.json.node_key.Statement.{statement}

@@ -1,4 +1,3 @@
--- Assumes nothing.
 use Rattle.rows.specs.Json.{variableAt}
 use borrow.Author.Needs.{needs}
 use Rattle.rows.proofs.json.variable_at.Statement.{statement}

@@ -1,4 +1,3 @@
--- Assumes nothing.
 use Rattle.rows.specs.Rows.{rowsOf}
 use borrow.Author.Needs.{needs}
 use native.Mathlib.Omega.{arith}

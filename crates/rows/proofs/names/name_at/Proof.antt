@@ -1,4 +1,3 @@
--- Assumes nothing.
 use Rattle.rows.specs.Names.{nameAt}
 use borrow.Author.Needs.{needs}
 use Rattle.rows.proofs.names.name_at.Statement.{statement}

@@ -1,4 +1,3 @@
--- Assumes nothing.
 use Rattle.rows.specs.Schema.{argumentAt}
 use borrow.Author.Needs.{needs}
 use Rattle.rows.proofs.schema.argument_at.Statement.{statement}

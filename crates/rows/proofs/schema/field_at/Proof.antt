@@ -1,4 +1,3 @@
--- Assumes nothing.
 use Rattle.rows.specs.Schema.{fieldAt}
 use borrow.Author.Needs.{needs}
 use Rattle.rows.proofs.schema.field_at.Statement.{statement}

@@ -1,4 +1,3 @@
--- Assumes nothing.
 use borrow.Author.Tests.{ne-eqb}
 use Rattle.rows.proofs.schema.type_kind.Statement.{statement}
 use Rattle.rows.proofs.schema.type_kind.Tie as tie

@@ -1,4 +1,3 @@
--- Assumes nothing.
 use borrow.Author.Tests.{lt-ltb, le-ltb, ne-eqb}
 use Rattle.rows.proofs.schema.type_ref_of.Statement.{statement}
 use Rattle.rows.proofs.schema.type_ref_of.Tie as tie

@@ -1,4 +1,3 @@
--- Assumes nothing.
 use native.Mathlib.Nat.{add-sub-cancel-left}
 use Rattle.rows.proofs.Cells.{text-cut, text-none}
 use borrow.Author.Needs.{needs}

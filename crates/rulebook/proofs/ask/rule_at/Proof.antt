@@ -1,4 +1,3 @@
--- Assumes nothing.
 use Rattle.tables.proofs.Numbered.{rule-size, rule-schema, rule-document, rule-value}
 use borrow.Author.Needs.{needs}
 use native.Mathlib.Omega.{arith}

@@ -1,4 +1,3 @@
--- Assumes nothing.
 use borrow.Author.Needs.{needs}
 use Rattle.rulebook.proofs.ask.size_holds.Statement.{statement}
 use Rattle.rulebook.proofs.ask.size_holds.Tie as tie

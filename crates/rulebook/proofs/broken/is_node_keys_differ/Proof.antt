@@ -1,4 +1,3 @@
--- Assumes nothing.
 use mathlib.Core.Bool.{false≢true}
 use borrow.Author.Needs.{needs}
 use Rattle.rulebook.proofs.broken.is_node_keys_differ.Statement.{statement}

@@ -1,4 +1,3 @@
--- Assumes nothing.
 use Rattle.rows.specs.Answers.{answerAt}
 use borrow.Author.Needs.{needs}
 use Rattle.rules.proofs.answers.answer_row.Statement.{statement}

@@ -1,4 +1,3 @@
--- Assumes nothing.
 use borrow.Author.Needs.{needs}
 use Rattle.rules.proofs.document.child_sets_are_larger.Statement.{statement}
 use Rattle.rules.proofs.document.child_sets_are_larger.Tie as tie

@@ -1,4 +1,3 @@
--- Assumes nothing.
 use mathlib.Core.Path.{sym}
 use Rattle.rules.proofs.Words.{condition-word}
 use borrow.Author.Needs.{needs}

@@ -1,4 +1,3 @@
--- Assumes nothing.
 use borrow.Author.Needs.{needs}
 use Rattle.rules.proofs.document.given_of.Statement.{statement}
 use Rattle.rules.proofs.document.given_of.Tie as tie

@@ -1,4 +1,3 @@
--- Assumes nothing.
 use borrow.Author.Needs.{needs}
 use Rattle.rules.proofs.document.is_larger_than.Statement.{statement}
 use Rattle.rules.proofs.document.is_larger_than.Tie as tie

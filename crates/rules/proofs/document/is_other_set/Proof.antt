@@ -1,4 +1,3 @@
--- Assumes nothing.
 use borrow.Author.Needs.{needs}
 use Rattle.rules.proofs.document.is_other_set.Statement.{statement}
 use Rattle.rules.proofs.document.is_other_set.Tie as tie

@@ -1,4 +1,3 @@
--- Assumes nothing.
 use Rattle.rules.specs.Document.{ownedSet}
 use borrow.Author.Needs.{needs}
 use Rattle.rules.proofs.document.owned_set.Statement.{statement}

@@ -1,4 +1,3 @@
--- Assumes nothing.
 use borrow.Author.Needs.{needs}
 use Rattle.rules.proofs.document.owns_other.Statement.{statement}
 use Rattle.rules.proofs.document.owns_other.Tie as tie

@@ -1,4 +1,3 @@
--- Assumes nothing.
 use Rattle.rows.specs.Document.{selectionAt, selectionOf, fieldSelection, spreadSelection, inlineSelection}
 use borrow.Author.Needs.{needs}
 use Rattle.rules.proofs.document.selection_row.Statement.{statement}

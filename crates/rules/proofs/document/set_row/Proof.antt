@@ -1,4 +1,3 @@
--- Assumes nothing.
 use borrow.Author.Needs.{needs}
 use Rattle.rules.proofs.document.set_row.Statement.{statement}
 use Rattle.rules.proofs.document.set_row.Tie as tie

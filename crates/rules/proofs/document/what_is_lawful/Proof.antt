@@ -1,4 +1,3 @@
--- Assumes nothing.
 use borrow.Author.Tests.{ne-eqb}
 use Rattle.rules.proofs.Words.{option-row}
 use borrow.Author.Needs.{needs}

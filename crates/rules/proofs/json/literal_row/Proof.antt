@@ -1,4 +1,3 @@
--- Assumes nothing.
 use Rattle.rows.specs.Json.{literalAt}
 use borrow.Author.Needs.{needs}
 use Rattle.rules.proofs.json.literal_row.Statement.{statement}

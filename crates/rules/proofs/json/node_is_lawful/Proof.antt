@@ -1,4 +1,3 @@
--- Assumes nothing.
 use borrow.Author.Tests.{ne-eqb}
 use borrow.Author.Needs.{needs}
 use Rattle.rules.proofs.json.node_is_lawful.Statement.{statement}

@@ -1,4 +1,3 @@
--- Assumes nothing.
 use Rattle.rows.specs.Json.{nodeAt}
 use borrow.Author.Needs.{needs}
 use Rattle.rules.proofs.json.node_row.Statement.{statement}

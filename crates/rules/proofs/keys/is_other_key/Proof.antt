@@ -1,4 +1,3 @@
--- Assumes nothing.
 use borrow.Author.Needs.{needs}
 use Rattle.rules.proofs.keys.is_other_key.Statement.{statement}
 use Rattle.rules.proofs.keys.is_other_key.Tie as tie

@@ -1,4 +1,3 @@
--- Assumes nothing.
 use borrow.Author.Needs.{needs}
 use Rattle.rules.proofs.layout.is_later.Statement.{statement}
 use Rattle.rules.proofs.layout.is_later.Tie as tie

@@ -1,4 +1,3 @@
--- Assumes nothing.
 use Rattle.rules.specs.Names.{nameSpelled}
 use borrow.Author.Needs.{needs}
 use Rattle.rules.proofs.names.name_is_spelled.Statement.{statement}

@@ -1,4 +1,3 @@
--- Assumes nothing.
 use Rattle.rows.specs.Schema.{fieldAt}
 use borrow.Author.Needs.{needs}
 use Rattle.rules.proofs.schema.field_row.Statement.{statement}

@@ -1,4 +1,3 @@
--- Assumes nothing.
 use borrow.Author.Needs.{needs}
 use Rattle.rules.proofs.schema.fields_differ.Statement.{statement}
 use Rattle.rules.proofs.schema.fields_differ.Tie as tie

@@ -1,4 +1,3 @@
--- Assumes nothing.
 use Rattle.rules.proofs.Words.{option-row}
 use Rattle.rules.proofs.schema.is_typed.Statement.{statement}
 use Rattle.rules.proofs.schema.is_typed.Tie as tie

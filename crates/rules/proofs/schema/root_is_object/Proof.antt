@@ -1,4 +1,3 @@
--- Assumes nothing.
 use borrow.Author.Needs.{needs}
 use Rattle.rules.proofs.schema.root_is_object.Statement.{statement}
 use Rattle.rules.proofs.schema.root_is_object.Tie as tie

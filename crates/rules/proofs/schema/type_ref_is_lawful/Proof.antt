@@ -1,4 +1,3 @@
--- Assumes nothing.
 use borrow.Author.Tests.{lt-ltb, le-ltb, ne-eqb}
 use Rattle.rules.proofs.schema.type_ref_is_lawful.Statement.{statement}
 use Rattle.rules.proofs.schema.type_ref_is_lawful.Tie as tie

@@ -1,4 +1,3 @@
--- Assumes nothing.
 use Rattle.rows.specs.Schema.{typeRefAt}
 use borrow.Author.Needs.{needs}
 use Rattle.rules.proofs.schema.type_ref_row.Statement.{statement}

@@ -1,4 +1,3 @@
--- Assumes nothing.
 use borrow.Author.Needs.{needs}
 use Rattle.rules.proofs.strings.is_float_text.Statement.{statement}
 use Rattle.rules.proofs.strings.is_float_text.Tie as tie

@@ -1,4 +1,3 @@
--- Assumes nothing.
 use Rattle.rules.proofs.Words.{text-outside, text-inside}
 use borrow.Author.Needs.{needs}
 use Rattle.rules.proofs.strings.is_string.Statement.{statement}

@@ -1,4 +1,3 @@
--- Assumes nothing.
 use Rattle.tables.specs.Lawful.{lawfulBuffers}
 use mathlib.Core.Path.{refl}
 use Rattle.tables.proofs.check.buffers_are_lawful.Statement.{statement}

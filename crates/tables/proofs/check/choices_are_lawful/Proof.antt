@@ -1,4 +1,3 @@
--- Assumes nothing.
 use Rattle.tables.specs.Lawful.{lawfulChoices}
 use mathlib.Core.Path.{refl}
 use Rattle.tables.proofs.check.choices_are_lawful.Statement.{statement}

@@ -1,4 +1,3 @@
--- Assumes nothing.
 use borrow.Author.Needs.{needs}
 use Rattle.tables.proofs.defaults.default_is_unmarked.Statement.{statement}
 use Rattle.tables.proofs.defaults.default_is_unmarked.Tie as tie

@@ -1,4 +1,3 @@
--- Assumes nothing.
 use borrow.Author.Needs.{needs}
 use Rattle.tables.proofs.defaults.is_closed_but.Statement.{statement}
 use Rattle.tables.proofs.defaults.is_closed_but.Tie as tie

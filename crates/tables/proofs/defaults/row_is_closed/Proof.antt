@@ -1,4 +1,3 @@
--- Assumes nothing.
 use borrow.Author.Needs.{needs}
 use Rattle.tables.proofs.defaults.row_is_closed.Statement.{statement}
 use Rattle.tables.proofs.defaults.row_is_closed.Tie as tie

@@ -1,4 +1,3 @@
--- Assumes nothing.
 use Rattle.tables.proofs.Parts.{none-given}
 use borrow.Author.Needs.{needs}
 use Rattle.tables.proofs.document.given_differ_since.Statement.{statement}

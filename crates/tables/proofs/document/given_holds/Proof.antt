@@ -1,4 +1,3 @@
--- Assumes nothing.
 use Rattle.rows.specs.Document.{givenAt}
 use borrow.Author.Needs.{needs}
 use Rattle.tables.proofs.document.given_holds.Statement.{statement}

@@ -1,4 +1,3 @@
--- Assumes nothing.
 use Rattle.tables.specs.ByTable.{selectionHolds}
 use Rattle.rows.specs.Document.{selectionAt, selectionOf, fieldSelection, spreadSelection, inlineSelection}
 use Rattle.tables.proofs.Chained.{turned-true, turned-false}

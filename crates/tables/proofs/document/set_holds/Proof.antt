@@ -1,4 +1,3 @@
--- Assumes nothing.
 use Prim.Native.Nat.{_+_, _≤_}
 use native.Mathlib.Omega.{arith}
 use Rattle.rows.specs.Document.{setAt}

@@ -1,4 +1,3 @@
--- Assumes nothing.
 use Rattle.tables.specs.ByTable.{fieldHolds}
 use Rattle.rows.specs.Schema.{fieldAt}
 use Rattle.tables.proofs.Chained.{turned-true, turned-false}

@@ -1,4 +1,3 @@
--- Assumes nothing.
 use borrow.Author.Needs.{needs}
 use Rattle.tables.proofs.schema.member_holds.Statement.{statement}
 use Rattle.tables.proofs.schema.member_holds.Tie as tie

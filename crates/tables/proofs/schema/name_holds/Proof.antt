@@ -1,4 +1,3 @@
--- Assumes nothing.
 use Rattle.tables.specs.ByTable.{nameHolds}
 use borrow.Author.Needs.{needs}
 use Rattle.tables.proofs.schema.name_holds.Statement.{statement}

@@ -1,4 +1,3 @@
--- Assumes nothing.
 use mathlib.Core.Bool.{_&&_}
 use Rattle.tables.specs.ByTable.{typeHolds}
 use Rattle.tables.proofs.Chained.{turned-true, turned-false}

@@ -1,4 +1,3 @@
--- Assumes nothing.
 use Rattle.rows.specs.Schema.{typeRefAt}
 use borrow.Author.Needs.{needs}
 use Rattle.tables.proofs.schema.type_ref_holds.Statement.{statement}

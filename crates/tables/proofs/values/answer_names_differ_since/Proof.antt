@@ -1,4 +1,3 @@
--- Assumes nothing.
 use mathlib.Core.Path.{_≡_, _∙_}
 use Rattle.rows.specs.Layout.{answerWidth}
 use Rattle.rows.specs.Rows.{cell}

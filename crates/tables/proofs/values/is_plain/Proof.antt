@@ -1,4 +1,3 @@
--- Assumes nothing.
 use borrow.Author.Needs.{needs}
 use Rattle.tables.proofs.values.is_plain.Statement.{statement}
 use Rattle.tables.proofs.values.is_plain.Tie as tie

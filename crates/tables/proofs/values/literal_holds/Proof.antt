@@ -1,4 +1,3 @@
--- Assumes nothing.
 use mathlib.Core.Bool.{_&&_}
 use lib.Dec.{ltb}
 use Rattle.tables.specs.ByTable.{literalHolds}

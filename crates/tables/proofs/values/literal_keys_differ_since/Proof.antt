@@ -1,4 +1,3 @@
--- Assumes nothing.
 use Rattle.tables.proofs.Parts.{no-keys}
 use borrow.Author.Needs.{needs}
 use Rattle.tables.proofs.values.literal_keys_differ_since.Statement.{statement}

@@ -1,4 +1,3 @@
--- Assumes nothing.
 use Rattle.tables.specs.ByTable.{nodeHolds}
 use Rattle.rows.specs.Json.{nodeAt, nodeKey}
 use Rattle.tables.proofs.Chained.{turned-true, turned-false}

@@ -1,4 +1,3 @@
--- Assumes nothing.
 use mathlib.Core.Path.{sym, _∙_}
 use Rattle.tables.specs.ByTable.{conj}
 use Rattle.tables.proofs.Chained.{turned-true, conj-broken}

@@ -1,4 +1,3 @@
--- Assumes nothing.
 use Rattle.text.proofs.numbers.Parts.{digit-or-above, below-digits}
 use Rattle.text.proofs.numbers.is_digit.Statement.{statement}
 use Rattle.text.proofs.numbers.is_digit.Tie as tie

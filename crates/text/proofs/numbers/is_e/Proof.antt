@@ -1,4 +1,3 @@
--- Assumes nothing.
 use Rattle.text.proofs.numbers.Parts.{small-e, maybe-capital-e}
 use Rattle.text.proofs.numbers.is_e.Statement.{statement}
 use Rattle.text.proofs.numbers.is_e.Tie as tie

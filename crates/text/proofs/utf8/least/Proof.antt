@@ -1,4 +1,3 @@
--- Assumes nothing.
 use Rattle.text.proofs.utf8.Octets.{least-two, least-three, least-four}
 use Rattle.text.proofs.utf8.least.Statement.{statement}
 use Rattle.text.proofs.utf8.least.Tie as tie

@@ -8,9 +8,4 @@ pub put-brackets-spec : {M : Type 1} → statement M
 put-brackets-spec =
     tie.close
     (tie.spec
-    (λ c κs. search needs)
-    (λ c. search needs)
-    (λ c. search brackets)
-    (λ c κs. search needs)
-    (λ c. search needs)
-    (λ c. search brackets))
+    (λ c κs. search needs) (λ c. search needs) (λ c. search brackets) (λ c κs. search needs) (λ c. search needs) (λ c. search brackets))

@@ -8,12 +8,5 @@ pub put-label-spec : {M : Type 1} → statement M
 put-label-spec =
     tie.close
     (tie.spec
-    (λ c κs. search needs)
-    (λ c κs. search needs)
-    (λ c κs. search needs)
-    (λ c κs. search needs)
-    (λ c κs. search needs)
-    (λ c. search needs)
-    (λ c. search labels)
-    (λ c. search needs)
-    (λ c. search labels))
+    (λ c κs. search needs) (λ c κs. search needs) (λ c κs. search needs) (λ c κs. search needs) (λ c κs. search needs) (λ c. search needs)
+    (λ c. search labels) (λ c. search needs) (λ c. search labels))

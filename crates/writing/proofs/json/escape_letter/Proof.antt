@@ -1,4 +1,3 @@
--- Assumes nothing.
 use borrow.Author.Tests.{eq-eqb, ne-eqb}
 use Rattle.writing.specs.Escape.{escapeLetter}
 use Rattle.writing.proofs.json.escape_letter.Statement.{statement}

@@ -1,4 +1,3 @@
--- Assumes nothing.
 use borrow.Author.Tests.{lt-ltb, le-ltb}
 use Rattle.writing.specs.Escape.{hexDigit}
 use borrow.Author.Needs.{needs}
