@@ -11,6 +11,7 @@ ghost use Rattle.rules.specs.Json.{objectRows, otherKey, nodeKeysDiffer};
 ghost use Rattle.distinct.specs.Differ.{Since};
 ghost use Rattle.distinct.specs.Plain.{isPlain};
 use crate::texts::note_texts;
+use rows::columns::NODE_KEY_START;
 use rows::columns::NODE_KIND;
 use rows::columns::NODE_ONE;
 use rows::columns::NODE_TWO;
@@ -19,9 +20,6 @@ use rows::layout::Range;
 use rows::layout::cell;
 use rows::layout::row_count;
 use rules::keys::node_keys_differ;
-
-// The column of a key's start.
-const KEY: usize = 3;
 
 // The children of an object, and no rows of any other node, whose further columns need no look.
 fn object_rows_at(nodes: &[u32], row: u32) -> Range
@@ -114,7 +112,7 @@ fn noted_keys_differ(pool: &[u8], nodes: &[u32], known: usize) -> bool
         pool,
         nodes,
         NODE_WIDTH,
-        KEY,
+        NODE_KEY_START,
         &mut heads,
         &mut next,
         &mut hashes,

@@ -5,6 +5,7 @@ ghost use Rattle.rows.specs.Layout.{nameWidth};
 ghost use Rattle.rows.specs.Rows.{all, rowsOf};
 ghost use Rattle.rules.specs.Names.{nameNew};
 use crate::texts::note_texts;
+use rows::columns::NAME_START;
 use rows::layout::row_count;
 use rows::names::NAME_WIDTH;
 
@@ -21,7 +22,7 @@ pub fn all_names_differ(pool: &[u8], names: &[u32]) -> bool
         pool,
         names,
         NAME_WIDTH,
-        0,
+        NAME_START,
         &mut heads,
         &mut next,
         &mut hashes,

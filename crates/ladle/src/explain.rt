@@ -12,8 +12,8 @@ use table_file::layout::Words;
 use table_file::layout::row_start;
 use table_file::line_of_row;
 ghost use Prim.Native.Nat.{_<_};
-use rulebook::ask::RULE_COUNT;
 use rulebook::ask::rule_at;
+use rulebook::ask::rule_count;
 use rulebook::broken::Broken;
 use tables::rule::Rule;
 use verdict::entries::first_broken;
@@ -105,9 +105,10 @@ fn is_printed(
 
 // What is left where every rule of a row holds is the one that follows a default into its parts.
 pub(crate) fn print_broken_rules(text: &[u8], pool: &mut Pool, words: &mut Words, sizes: Sizes) {
+    let count = rule_count();
     let mut is_any_broken = false;
     let mut number: u32 = 0;
-    while number < RULE_COUNT {
+    while number < count {
         if is_printed(rule_at(number), is_any_broken, text, pool, words, sizes) {
             is_any_broken = true;
         }

@@ -7,6 +7,7 @@ use table_file::layout::Words;
 use table_file::layout::row_start;
 use table_file::layout::row_width;
 ghost use Prim.Native.Nat.{_<_};
+use rows::columns;
 use rulebook::broken::Broken;
 use tables::rule::Rule;
 use verdict::entries::first_broken;
@@ -53,12 +54,12 @@ fn behind(row: u32) -> u32 {
 // A kind that is known is not what is wrong, though as another kind nearly every row is right.
 fn is_known_kind(table: usize, column: usize, word: u32) -> bool {
     match table {
-        layout::TYPE_REFS => column == 0 && word < 2,
-        layout::TYPES => column == 1 && word < 6,
-        layout::SELECTIONS => column == 0 && word < 3,
-        layout::NODES => column == 0 && word < 9,
-        layout::LITERALS => column == 0 && word < 11,
-        layout::ANSWERS => column == 0 && word < 6,
+        layout::TYPE_REFS => column == columns::TYPE_REF_KIND && word < 2,
+        layout::TYPES => column == columns::TYPE_KIND && word < 6,
+        layout::SELECTIONS => column == columns::SELECTION_KIND && word < 3,
+        layout::NODES => column == columns::NODE_KIND && word < 9,
+        layout::LITERALS => column == columns::LITERAL_KIND && word < 11,
+        layout::ANSWERS => column == columns::ANSWER_KIND && word < 6,
         _ => false,
     }
 }

@@ -2,7 +2,8 @@
 ghost use mathlib.Core.Path.{_≡_};
 ghost use Rattle.tables.specs.Tables.{tables};
 ghost use Rattle.rulebook.specs.Chapters.{schemaTables, documentTables, valueTables};
-ghost use Rattle.tables.specs.Rules.{sizeHolds, schemaSays, documentSays, valueSays, sizeRule, schemaRule, documentRule, valueRule, ruleAt, rowsFor, holdsAt};
+ghost use lib.ListN.{length};
+ghost use Rattle.tables.specs.Rules.{rules, sizeHolds, schemaSays, documentSays, valueSays, sizeRule, schemaRule, documentRule, valueRule, ruleAt, rowsFor, holdsAt};
 use rows::answers::ANSWER_WIDTH;
 use rows::document::FRAGMENT_WIDTH;
 use rows::document::GIVEN_WIDTH;
@@ -71,7 +72,12 @@ use tables::rule::SchemaRule;
 use tables::rule::SizeRule;
 use tables::rule::ValueRule;
 
-pub const RULE_COUNT: u32 = 46;
+// How many rules there are.
+pub fn rule_count() -> u32
+    ensures { λ r. ⌜ r ≡ length rules ⌝ }
+{
+    46
+}
 
 fn size_holds(
     rule: SizeRule,
