@@ -162,7 +162,7 @@ module _ {P : (A : Type 0) → M A → Type 0} {p : Path} (C : Closed P p) where
   -- ---- Coerce
 
   module _ (pool names refs types fields nodes literals variables : List ℕ) where
-    failAt-closed : {A : Type 0} (e : FieldError) (row : ℕ) → P A (failAt pool names refs types fields nodes literals variables e row p)
+    failAt-closed : {A : Type 0} (e : FieldError) (row : ℕ) → P A (failAt literals e row p)
     unfolding failAt
     failAt-closed e row = C .of-error _ _ _ _
 

@@ -53,22 +53,27 @@ itemsOf row single = row ∷ []
 itemsOf row (listed rows) = rowsIn rows
 itemsOf row (keyed rows) = row ∷ []
 
+-- a variable's value is null where that may not be
+unfoldable pub nullAgainst : (refs nodes variables : List ℕ) → (ty v : ℕ) → Bool
+nullAgainst refs nodes variables ty v = isNullForm (nodeForm (nodeAt nodes (variableAt variables v .node))) && nonNull refs ty
+
+-- A literal fails at its own place.
+unfoldable pub failAt : {A : Type 0} → (literals : List ℕ) → FieldError → ℕ → Path → M A
+failAt literals e row p = fail here (errorOf e 0 0 (literalPlace literals row) p)
+
+-- a key of an object literal that the type has no field for
+unfoldable pub unknownKey : (types fields literals : List ℕ) → (type : ℕ) → List ℕ → Option ℕ
+unknownKey types fields literals type given =
+    find (λ m. elim (fieldNamed types fields type (literalKey literals m)) [ none ↦ true | some f ↦ false ]) given
+
 module _ (pool names refs types fields nodes literals variables : List ℕ) where
-  -- a variable's value is null where that may not be
-  unfoldable pub nullAgainst : (ty v : ℕ) → Bool
-  nullAgainst ty v = isNullForm (nodeForm (nodeAt nodes (variableAt variables v .node))) && nonNull refs ty
-
   -- ---- One value
-
-  -- A literal fails at its own place.
-  unfoldable pub failAt : {A : Type 0} → FieldError → ℕ → Path → M A
-  failAt e row p = fail here (errorOf e 0 0 (literalPlace literals row) p)
 
   -- A variable inside a list or an object: its value, null where it is absent and may be, or an error.
   unfoldable pub coerceVariable : Path → (ty row : ℕ) → Option ℕ → M Json
-  coerceVariable p ty row none = when (nonNull refs ty) (failAt error.MissingVariable row p) (pure null)
+  coerceVariable p ty row none = when (nonNull refs ty) (failAt literals error.MissingVariable row p) (pure null)
   coerceVariable p ty row (some v) =
-      when (nullAgainst ty v) (failAt error.NullVariable row p) (variableValue pool nodes variables v)
+      when (nullAgainst refs nodes variables ty v) (failAt literals error.NullVariable row p) (variableValue pool nodes variables v)
 
   -- `inside` coerces a literal at a type, one container further in; `room` is how many containers may still be opened.
   module _ (room : ℕ) (inside : ℕ → ℕ → M Json) (p : Path) where
@@ -87,7 +92,7 @@ module _ (pool names refs types fields nodes literals variables : List ℕ) wher
       j ← partByPart pool names literals (room - 1) default
       pure (some j)
     inputField row field none optional.Absent =
-        when (nonNull refs (fieldAt fields field .ty)) (failAt error.MissingInputField row p) (pure none)
+        when (nonNull refs (fieldAt fields field .ty)) (failAt literals error.MissingInputField row p) (pure none)
 
     -- the fields of an input object type, in the type's order
     unfoldable pub inputFields : (row : ℕ) → List ℕ → List ℕ → M Json
@@ -98,23 +103,18 @@ module _ (pool names refs types fields nodes literals variables : List ℕ) wher
         givenFor : ℕ → Option ℕ
         givenFor field = find (λ m. eqb (literalKey literals m) (fieldAt fields field .name)) given
 
-    -- a key that the type has no field for
-    unfoldable pub unknownKey : (type : ℕ) → List ℕ → Option ℕ
-    unknownKey type given =
-        find (λ m. elim (fieldNamed types fields type (literalKey literals m)) [ none ↦ true | some f ↦ false ]) given
-
     -- Input objects (section 3.10). An unknown key is found before anything about the values.
     unfoldable pub knownObject : (type row : ℕ) → List ℕ → Option ℕ → M Json
-    knownObject type row given (some key) = failAt error.UnknownKey row p
+    knownObject type row given (some key) = failAt literals error.UnknownKey row p
     knownObject type row given none = inputFields row given (rowsIn (typeAt types type .fields))
 
     unfoldable pub inputObject : (type row : ℕ) → Shape → M Json
-    inputObject type row single = failAt error.CannotCoerce row p
-    inputObject type row (listed rows) = failAt error.CannotCoerce row p
-    inputObject type row (keyed rows) = knownObject type row (rowsIn rows) (unknownKey type (rowsIn rows))
+    inputObject type row single = failAt literals error.CannotCoerce row p
+    inputObject type row (listed rows) = failAt literals error.CannotCoerce row p
+    inputObject type row (keyed rows) = knownObject type row (rowsIn rows) (unknownKey types fields literals type (rowsIn rows))
 
     unfoldable pub coerceNamed : (row : ℕ) → Shape → Option ℕ → M Json
-    coerceNamed row shape none = failAt error.UndefinedInputType row p
+    coerceNamed row shape none = failAt literals error.UndefinedInputType row p
     coerceNamed row shape (some type) =
         when (isInputObject (typeAt types type .kind)) (inputObject type row shape) (partByPart pool names literals room row)
 
@@ -123,10 +123,10 @@ module _ (pool names refs types fields nodes literals variables : List ℕ) wher
     unfoldable pub coerceShape : (row : ℕ) → Shape → TypeRef → M Json
     coerceShape row shape (ref.Named name nullable) = coerceNamed row shape (typeNamed types name)
     coerceShape row shape (ref.ListOf inner nullable) = coerceItems inner (itemsOf row shape)
-    coerceShape row shape ref.Unknown = failAt error.UndefinedInputType row p
+    coerceShape row shape ref.Unknown = failAt literals error.UndefinedInputType row p
 
     unfoldable pub coerceLiteral : (ty row : ℕ) → LiteralForm → M Json
-    coerceLiteral ty row nullGiven = when (nonNull refs ty) (failAt error.InnerNull row p) (pure null)
+    coerceLiteral ty row nullGiven = when (nonNull refs ty) (failAt literals error.InnerNull row p) (pure null)
     coerceLiteral ty row (variable name) = coerceVariable p ty row (variableNamed variables name)
     coerceLiteral ty row (shaped shape) = coerceShape row shape (typeRefAt refs ty)
 
@@ -160,7 +160,7 @@ module _ (pool names refs types fields nodes literals variables : List ℕ) wher
     unfoldable pub variableArgument : Path → ℕ → Option ℕ → M Arguments
     variableArgument p argument none = defaultArgument p argument (argumentAt arguments argument .default)
     variableArgument p argument (some v) =
-        when (nullAgainst (argumentAt arguments argument .ty) v) (argumentError error.NullArgument p argument)
+        when (nullAgainst refs nodes variables (argumentAt arguments argument .ty) v) (argumentError error.NullArgument p argument)
         (valued argument (variableValue pool nodes variables v))
 
     unfoldable pub literalArgument : Path → (argument row : ℕ) → M Arguments

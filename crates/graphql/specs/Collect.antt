@@ -58,7 +58,7 @@ orDefault d isNull = d
 orDefault d (isBool b) = b
 orDefault d isOther = d
 
-module _ (types members sets selections fragments variables nodes : List ℕ) where
+module _ (variables nodes : List ℕ) where
   -- "A variable that is absent or not boolean counts as no directive."
   unfoldable pub variableHolds : Bool → Option ℕ → Bool
   variableHolds d none = d
@@ -75,6 +75,7 @@ module _ (types members sets selections fragments variables nodes : List ℕ) wh
   unfoldable pub dropped : Selection → Bool
   dropped s = holds false (s .skip) || not (holds true (s .include))
 
+module _ (types members : List ℕ) where
   -- "A fragment on an object applies to that object, on an interface to objects listing it, on a union to members ..; nothing else
   -- applies."
   unfoldable pub appliesBy : (object condition row : ℕ) → TypeKind → Bool
@@ -96,12 +97,13 @@ module _ (types members sets selections fragments variables nodes : List ℕ) wh
   inlineApplies object optional.Absent = true
   inlineApplies object (optional.Row n) = doesFragmentTypeApply object n
 
+module _ (types members sets selections fragments variables nodes : List ℕ) where
   -- `open'` collects the selections of a fragment's set, one more fragment being open.
   module _ (open' : ℕ → ℕ → Collected → M Collected) (object : ℕ) where
     unfoldable pub enterFragment : Option ℕ → Collected → M Collected
     enterFragment none c = pure c
     enterFragment (some f) c =
-        when (doesFragmentTypeApply object (fragmentAt fragments f .condition))
+        when (doesFragmentTypeApply types members object (fragmentAt fragments f .condition))
         (open' object (fragmentAt fragments f .set) c)
         (pure c)
 
@@ -112,14 +114,14 @@ module _ (types members sets selections fragments variables nodes : List ℕ) wh
     unfoldable pub collectSelected : ℕ → Selected → Collected → M Collected
     collectSelected row (selected.Field field) c = collectField (field .key) row c
     collectSelected row (selected.Spread n) c = spread n c
-    collectSelected row (selected.Inline type set) c = when (inlineApplies object type) (open' object set c) (pure c)
+    collectSelected row (selected.Inline type set) c = when (inlineApplies types members object type) (open' object set c) (pure c)
     collectSelected row selected.Unknown c = pure c
 
     -- CollectFields(objectType, selectionSet, variableValues, visitedFragments)
     unfoldable pub collectFields : List ℕ → Collected → M Collected
     collectFields [] c = pure c
     collectFields (row ∷ rest) c = do
-      d ← when (dropped (selectionAt selections row)) (pure c) (collectSelected row (selectionAt selections row .what) c)
+      d ← when (dropped variables nodes (selectionAt selections row)) (pure c) (collectSelected row (selectionAt selections row .what) c)
       collectFields rest d
 
   -- Code 3: "33 open fragments in one collection". Inline fragments count.

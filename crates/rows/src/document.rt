@@ -99,7 +99,8 @@ fn condition_of(word: u32) -> Condition
     Condition::Variable(word - 3)
 }
 
-fn field_selection(selections: &[u32], row: u32) -> FieldSelection
+// A selection as a field, whatever it is.
+pub fn field_selection(selections: &[u32], row: u32) -> FieldSelection
     ensures { λ r. ⌜ r ≡ fieldSelection (now (selections .entry)) row ⌝ }
 {
     let at = row as usize;
@@ -113,6 +114,13 @@ fn field_selection(selections: &[u32], row: u32) -> FieldSelection
         set: cell(selections, SELECTION_WIDTH, at, SELECTION_SET),
         ty: cell(selections, SELECTION_WIDTH, at, SELECTION_TYPE),
     }
+}
+
+// Where a selection stands in the document.
+pub fn selection_place(selections: &[u32], row: u32) -> u32
+    ensures { λ r. ⌜ r ≡ selectionAt (now (selections .entry)) row .place ⌝ }
+{
+    cell(selections, SELECTION_WIDTH, row as usize, SELECTION_PLACE)
 }
 
 fn spread_selection(selections: &[u32], row: u32) -> Selected

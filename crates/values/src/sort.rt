@@ -46,7 +46,7 @@ fn sort_of_negative(magnitude: u64) -> Sort
     Sort::Long
 }
 
-fn sort_of_node(node: Node) -> Sort
+pub fn sort_of_node(node: Node) -> Sort
     ensures { λ r. ⌜ r ≡ said (nodeSort node) ⌝ }
 {
     match node {
