@@ -1,10 +1,12 @@
 //! `bench [--seconds S] [NAME..]` times the static library beside plain Rust, in turns, on the workloads
 //! of these names, or on all: processor time of a call in microseconds, least and median, and how many
 //! times plain Rust's the library's are. `bench --list` says which workloads there are. It fails if one
-//! of the two refuses a workload.
+//! of the two refuses a workload. The library has no run yet: of runs, plain Rust's are timed alone.
 
 use bench::timing::{in_turns, Call, Times};
-use bench::workloads::{Workload, DEPTH_CHECKS, TABLE_CHECKS};
+use bench::workloads::{Run, Workload, DEPTH_CHECKS, RUNS, TABLE_CHECKS};
+use plain::Reported;
+use std::cell::RefCell;
 use std::hint::black_box;
 use std::process::ExitCode;
 use std::time::Duration;
@@ -21,7 +23,7 @@ fn main() -> ExitCode {
         ["--seconds", seconds, ref names @ ..] => (seconds.parse().unwrap_or(f64::NAN), names),
         ref names => (SECONDS, names),
     };
-    let known = |name: &&str| all().any(|workload| workload.name == *name);
+    let known = |name: &&str| all().any(|(known, _)| known == *name);
     if !(0.0..=3_600.0).contains(&seconds) || !names.iter().all(known) {
         eprintln!("usage: bench --list, or bench [--seconds S] [NAME..]");
         return ExitCode::from(2);
@@ -35,19 +37,23 @@ fn main() -> ExitCode {
     }
 }
 
-fn all() -> impl Iterator<Item = &'static Workload> {
-    TABLE_CHECKS.iter().chain(&DEPTH_CHECKS)
+/// The names of all workloads, and what they are.
+fn all() -> impl Iterator<Item = (&'static str, &'static str)> {
+    let checks = TABLE_CHECKS.iter().chain(&DEPTH_CHECKS);
+    let checks = checks.map(|workload| (workload.name, workload.what));
+    checks.chain(RUNS.iter().map(|run| (run.name, run.what)))
 }
 
 fn list() -> ExitCode {
-    for workload in all() {
-        println!("{:15} {}", workload.name, workload.what);
+    for (name, what) in all() {
+        println!("{name:15} {what}");
     }
     ExitCode::SUCCESS
 }
 
 fn run(names: &[&str], patience: Duration) -> Result<(), String> {
-    let chosen = |workload: &&Workload| names.is_empty() || names.contains(&workload.name);
+    let is_chosen = |name: &str| names.is_empty() || names.contains(&name);
+    let chosen = |workload: &&Workload| is_chosen(workload.name);
     println!(
         "{:15} {:>11} {:>11} {:>11} {:>11} {:>6} {:>6} {:>6}",
         "", "library", "median", "plain", "median", "ratio", "median", "turns"
@@ -57,6 +63,9 @@ fn run(names: &[&str], patience: Duration) -> Result<(), String> {
     }
     for workload in DEPTH_CHECKS.iter().filter(chosen) {
         depth_check(workload, patience)?;
+    }
+    for run in RUNS.iter().filter(|run| is_chosen(run.name)) {
+        time_run(run, patience)?;
     }
     Ok(())
 }
@@ -86,7 +95,7 @@ fn table_check(workload: &Workload, patience: Duration) -> Result<(), String> {
             black_box(plain::table_check(black_box(tables)));
         }
     };
-    report(workload, tables.len(), &[&library, &plain], patience);
+    report(workload.name, tables.len(), &[Some(&library), Some(&plain)], patience);
     Ok(())
 }
 
@@ -102,20 +111,85 @@ fn depth_check(workload: &Workload, patience: Duration) -> Result<(), String> {
             black_box(ladlehedge::depth_check(black_box(tables))).ok();
         }
     };
-    report(workload, tables.len(), &[&library], patience);
+    report(workload.name, tables.len(), &[Some(&library), None], patience);
     Ok(())
 }
 
-fn report(workload: &Workload, count: usize, calls: &[Call<'_>], patience: Duration) {
-    let times = in_turns(calls, patience);
-    print!("{:15}", workload.name);
-    for times in &times {
-        let [least, median] = [times.least(), times.median()].map(|time| time / count as f64);
-        print!(" {least:11.2} {median:11.2}");
+/// A run of the library: tables, choices, text, error records.
+type LibraryRun = fn(&ladlehedge::Tables<'_>, &[u32], &mut [u8], &mut [u32]) -> Reported;
+
+/// HOOK THE LIBRARY'S RUN IN HERE: the one place to change once `ladlehedge` has it. With `None`, plain
+/// Rust is timed alone; with a run, the two are held against each other and timed in turns.
+const LIBRARY_RUN: Option<LibraryRun> = None;
+
+/// What a run leaves in its buffers.
+struct Buffers {
+    text: Vec<u8>,
+    errors: Vec<u32>,
+}
+
+fn time_run(run: &Run, patience: Duration) -> Result<(), String> {
+    let (tables, choices) = ((run.make)(), run.choices());
+    let lent = lent(&tables);
+    let buffers = || Buffers { text: vec![1; run.sizes.0], errors: vec![1; run.sizes.1] };
+    let plain_run = |Buffers { text, errors }: &mut Buffers| {
+        plain::run_ordered(black_box(&tables), black_box(&choices), text, errors)
+    };
+    let library_run = LIBRARY_RUN.map(|run| {
+        let (lent, choices) = (&lent, &choices);
+        move |Buffers { text, errors }: &mut Buffers| {
+            run(black_box(lent), black_box(choices), text, errors)
+        }
+    });
+    let mut of_plain = buffers();
+    let reported = plain_run(&mut of_plain);
+    if (reported.code, reported.records) != (0, run.records) {
+        return Err(format!("{}: plain {reported:?}", run.name));
     }
-    if let [library, plain] = &times[..] {
-        let ratio = |of: fn(&Times) -> f64| of(library) / of(plain);
-        print!(" {:6.2} {:6.2}", ratio(Times::least), ratio(Times::median));
+    if let Some(library_run) = &library_run {
+        let mut of_library = buffers();
+        let of_both = (reported, library_run(&mut of_library));
+        let same = of_plain.text == of_library.text && of_plain.errors == of_library.errors;
+        if of_both.0 != of_both.1 || !same {
+            return Err(format!("{}: plain and library {of_both:?}", run.name));
+        }
     }
-    println!(" {:6}", times[0].turns());
+    let reused = RefCell::new(of_plain);
+    let plain = || {
+        black_box(plain_run(&mut reused.borrow_mut()));
+    };
+    let library = library_run.map(|library_run| {
+        let reused = &reused;
+        move || {
+            black_box(library_run(&mut reused.borrow_mut()));
+        }
+    });
+    let library = library.as_ref().map(|library| library as Call<'_>);
+    report(run.name, 1, &[library, Some(&plain)], patience);
+    Ok(())
+}
+
+/// Times the library and plain Rust, as far as both are there.
+fn report(name: &str, count: usize, [library, plain]: &[Option<Call<'_>>; 2], patience: Duration) {
+    let calls: Vec<Call<'_>> = [library, plain].into_iter().copied().flatten().collect();
+    let mut times = in_turns(&calls, patience).into_iter();
+    print!("{name:15}");
+    let of_both = [library, plain].map(|call| call.and_then(|_| times.next()));
+    for times in &of_both {
+        match times {
+            Some(times) => {
+                let time = |time: f64| time / count as f64;
+                print!(" {:11.2} {:11.2}", time(times.least()), time(times.median()));
+            }
+            None => print!(" {:>11} {:>11}", "-", "-"),
+        }
+    }
+    match &of_both {
+        [Some(library), Some(plain)] => {
+            let ratio = |of: fn(&Times) -> f64| of(library) / of(plain);
+            print!(" {:6.2} {:6.2}", ratio(Times::least), ratio(Times::median));
+        }
+        _ => print!(" {:>6} {:>6}", "-", "-"),
+    }
+    println!(" {:6}", of_both.iter().flatten().map(Times::turns).max().unwrap_or_default());
 }

@@ -14,6 +14,43 @@ pub struct Workload {
     pub make: fn() -> Vec<Tables>,
 }
 
+/// A run to be timed, under a name.
+pub struct Run {
+    pub name: &'static str,
+    pub what: &'static str,
+    pub make: fn() -> Tables,
+    /// The sizes of the buffers: bytes and words.
+    pub sizes: (usize, usize),
+    /// How many choices are given: 0 for document order.
+    pub choices: usize,
+    /// How many error records it leaves.
+    pub records: usize,
+}
+
+impl Run {
+    /// In document order, with the largest buffers, and without errors.
+    const fn new(name: &'static str, what: &'static str, make: fn() -> Tables) -> Self {
+        Run { name, what, make, sizes: (65_536, 16_384), choices: 0, records: 0 }
+    }
+
+    const fn with_records(self, records: usize) -> Self {
+        Run { records, ..self }
+    }
+
+    const fn with_choices(self, choices: usize) -> Self {
+        Run { choices, ..self }
+    }
+
+    const fn with_sizes(self, bytes: usize, words: usize) -> Self {
+        Run { sizes: (bytes, words), ..self }
+    }
+
+    /// The choices: as if at random, and always the same.
+    pub fn choices(&self) -> Vec<u32> {
+        (0..self.choices as u32).map(|number| number.wrapping_mul(0x9e37_79b9) >> 7).collect()
+    }
+}
+
 /// Seeds of random tables.
 const SEEDS: std::ops::Range<u64> = 0..200;
 /// Sets where they share selections.
@@ -106,6 +143,36 @@ pub const DEPTH_CHECKS: [Workload; 3] = [
     }),
 ];
 
+/// For runs, which begin with a table check and end with zeros in what is left of the buffers.
+pub const RUNS: [Run; 18] = [
+    Run::new("run-integers", "1: a list of 2,000 integers", ordinary::integers),
+    Run::new("run-objects", "2: a list of 2,000 objects of three leaves", ordinary::short_objects),
+    Run::new("run-wide", "3: 64 objects of two types, 30 entries, aliases", ordinary::wide),
+    Run::new("run-deep", "4: 100 chains of 26 objects", ordinary::deep),
+    Run::new("run-ascii", "5: 600 strings with escapes", || ordinary::short_strings(true)),
+    Run::new("run-utf8", "5: the same, a fifth of it not ASCII", || ordinary::short_strings(false)),
+    Run::new("run-echoes", "6: 2,000 echoes of an input object", ordinary::echoes),
+    Run::new("run-coercions", "6b: 2,000 coercions, echoed", ordinary::coercions),
+    Run::new("run-again", "6b: the same 80, for 25 objects", ordinary::coercions_again),
+    Run::new(
+        "run-nulled",
+        "7: 500 lists of three, each nulled by an error",
+        ordinary::nulled_lists,
+    )
+    .with_records(500),
+    Run::new("run-wrong", "7: 1,500 items, 500 of them errors", ordinary::wrong_leaves)
+        .with_records(500),
+    Run::new("run-leaves", "8: 20 objects of 100 leaves, order given", ordinary::leaves)
+        .with_choices(4_096),
+    Run::new("run-order", "8: and a list in each, order given", ordinary::leaves_and_lists)
+        .with_choices(4_096),
+    Run::new("run-in-order", "8: the same in document order", ordinary::leaves_and_lists),
+    Run::new("run-small", "9: { f }, small buffers", ordinary::one_leaf).with_sizes(64, 16),
+    Run::new("run-zeros", "9: { f }, the largest buffers", ordinary::one_leaf),
+    Run::new("run-limits", "10: every table at its limit", full::answered),
+    Run::new("run-limits-s", "10: the same, small buffers", full::answered).with_sizes(4_096, 16),
+];
+
 #[cfg(test)]
 mod tests {
     use super::*;
@@ -114,6 +181,7 @@ mod tests {
     #[test]
     fn names_are_distinct() {
         let names = TABLE_CHECKS.iter().chain(&DEPTH_CHECKS).map(|workload| workload.name);
+        let names = names.chain(RUNS.iter().map(|run| run.name));
         let distinct: HashSet<&str> = names.clone().collect();
         assert_eq!(distinct.len(), names.count());
     }

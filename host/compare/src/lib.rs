@@ -5,8 +5,9 @@
 //! why. A run that is answered without errors is answered the same in every order. That a depth check
 //! ends with code 3 only the reading says: nothing is compared there.
 //!
-//! [`sample`]: the oracle's answers to depth checks, recorded.
+//! [`sample`]: the oracle's answers to depth checks, recorded. [`runs`]: plain Rust's runs against the reading.
 
+pub mod runs;
 pub mod sample;
 
 use oracle::judge::{self, Answered, CannotJudge};

@@ -30,6 +30,27 @@ pub fn plain() -> Tables {
     tables
 }
 
+/// The same, so that a run is answered: its operation has as many selections as may be collected, in 64
+/// groups, each with an argument that is converted and a string for an answer.
+pub fn answered() -> Tables {
+    let mut tables = plain();
+    let (scalar, last) = (limit::TYPES - 1, limit::SELECTIONS - limit::COLLECTED);
+    tables.types[scalar * width::TYPES + 1..][..5].copy_from_slice(&[
+        type_kind::SCALAR,
+        0,
+        0,
+        0,
+        0,
+    ]);
+    tables.type_refs[2] = word(FIRST_NAME + scalar);
+    tables.sets[..2].copy_from_slice(&[word(last), word(limit::COLLECTED)]);
+    // Of the literals, each of which is a list around the next, those in which few are open.
+    for (row, given) in tables.given.chunks_exact_mut(width::GIVEN).enumerate() {
+        given[1] = word(limit::LITERALS - limit::OPEN + row % limit::OPEN);
+    }
+    tables
+}
+
 /// Where in a long name the names differ.
 #[derive(Debug, Clone, Copy)]
 pub enum Differ {

@@ -23,12 +23,24 @@ const OWN: usize = 697;
 /// A list of 2,000 objects of three leaves.
 pub fn objects() -> Tables {
     let schema = "type Q { l: [T] }  type T { id: Int  name: String  ok: Boolean }";
+    let fields = |number| format!("id: {number}, name: \"item {number}\", ok: true");
+    objects_of(schema, "{ l { id name ok } }", fields)
+}
+
+/// The same with shorter keys and names, so that a run's text has room for them.
+pub fn short_objects() -> Tables {
+    let schema = "type Q { l: [T] }  type T { i: Int  n: String  b: Boolean }";
+    let fields = |number| format!("i: {number}, n: \"n{number}\", b: true");
+    objects_of(schema, "{ l { i n b } }", fields)
+}
+
+/// A list of 2,000 objects of three fields: some have their own, the others share them.
+fn objects_of(schema: &str, document: &str, fields: impl Fn(usize) -> String) -> Tables {
     let items = many(OBJECTS, |number| match number {
-        ..OWN => format!("T{{ id: {number}, name: \"item {number}\", ok: true }}"),
+        ..OWN => format!("T{{ {} }}", fields(number)),
         _ => "T{ }".into(),
     });
-    let mut tables =
-        notation::tables(schema, "{ l { id name ok } }", "", &format!("{{ l: [{items}] }}"));
+    let mut tables = notation::tables(schema, document, "", &format!("{{ l: [{items}] }}"));
     // The answers are the root, the list, the objects one behind the other, then their fields.
     let (own, others) = tables.answers[2 * width::ANSWERS..].split_at_mut(OWN * width::ANSWERS);
     let others = others.chunks_exact_mut(width::ANSWERS).take(OBJECTS - OWN);
@@ -78,6 +90,16 @@ pub fn deep() -> Tables {
 /// 600 strings, about 60 kB, in which every tenth character has to be escaped. Where not all is ASCII,
 /// every fifth character is of two, three or four bytes.
 pub fn strings(ascii: bool) -> Tables {
+    strings_of(98, ascii)
+}
+
+/// The same, about 48 kB, so that a run's text has room for them.
+pub fn short_strings(ascii: bool) -> Tables {
+    strings_of(78, ascii)
+}
+
+/// The same, of about so many bytes each.
+fn strings_of(bytes: usize, ascii: bool) -> Tables {
     let others: &[char] = if ascii { &['x', 'y', 'z'] } else { &['é', '€', '𝄞'] };
     let text = |number: usize| {
         let mut text = format!("{number} ");
@@ -87,7 +109,7 @@ pub fn strings(ascii: bool) -> Tables {
                 4 | 9 => text.push(others[place / 5 % 3]),
                 _ => text.push('a'),
             }
-            if text.len() >= 98 {
+            if text.len() >= bytes {
                 break;
             }
         }
@@ -117,4 +139,102 @@ pub fn coerced() -> Tables {
         "{\"v\": 7}",
         &format!("{{ {answers} }}"),
     )
+}
+
+/// A list of 2,000 echoes of an input object.
+pub fn echoes() -> Tables {
+    let schema = "scalar Any  enum Hue { RED GREEN }
+        type Q { f(x: In!): [Any] }  input In { a: Int! = 1  b: [Int]  c: Hue = RED  d: In }";
+    let document = "{ f(x: { b: [2, $v], a: 7 }) }";
+    let items = many(2_000, |_| "echo x".into());
+    notation::tables(schema, document, "{\"v\": 3}", &format!("{{ f: [{items}] }}"))
+}
+
+/// Objects of [`coercions`], and the fields of each.
+const COERCING: usize = 16;
+const COERCED: usize = 125;
+
+/// 2,000 fields, each a selection of its own, with coerced arguments: an input object, which is echoed,
+/// and two defaults. The arguments are given by the same rows.
+pub fn coercions() -> Tables {
+    let document = many(COERCING, |object| {
+        let fields = many(COERCED, |field| match (object, field) {
+            (0, 0) => "k0: f(x: { a: 7, b: [2, $v] })".into(),
+            _ => format!("k{field}: f"),
+        });
+        format!("o{object}: o {{ {fields} }}")
+    });
+    let answers = "{ o: T{ f: echo x } }";
+    let mut tables =
+        notation::tables(COERCING_SCHEMA, &format!("{{ {document} }}"), "{\"v\": 3}", answers);
+    let is_given = |row: &[u32]| row[7] != 0;
+    let mut rows = tables.selections.chunks_exact(width::SELECTIONS);
+    let given = rows.find(|row| is_given(row)).map_or([0; 2], |row| [row[6], row[7]]);
+    for row in tables.selections.chunks_exact_mut(width::SELECTIONS).filter(|row| row[8] == 0) {
+        row[6..8].copy_from_slice(&given);
+    }
+    tables
+}
+
+const COERCING_SCHEMA: &str = "scalar Any  enum Hue { RED GREEN }
+    type Q { o: T  l: [T] }
+    type T { f(x: In!, y: [Int!] = [1, 2], hue: Hue = RED): Any }
+    input In { a: Int! = 1  b: [Int] = [1, 2, 3]  c: In }";
+
+/// 25 objects of 80 fields with such arguments, which are the same for each object.
+pub fn coercions_again() -> Tables {
+    let fields = many(80, |field| format!("k{field}: f(x: {{ a: {field}, b: [2, $v] }})"));
+    let items = many(25, |_| "T{ f: echo x }".into());
+    let document = format!("{{ l {{ {fields} }} }}");
+    notation::tables(COERCING_SCHEMA, &document, "{\"v\": 3}", &format!("{{ l: [{items}] }}"))
+}
+
+/// 500 lists of three integers, the last of which is null and may not be: each list becomes null.
+pub fn nulled_lists() -> Tables {
+    let items = many(500, |number| format!("[{number}, {number}, null]"));
+    notation::tables("type Q { f: [[Int!]] }", "{ f }", "", &format!("{{ f: [{items}] }}"))
+}
+
+/// A list of 1,500 integers, every third of which is none and becomes null.
+pub fn wrong_leaves() -> Tables {
+    let items = many(1_500, |number| match number % 3 {
+        2 => "\"x\"".into(),
+        _ => format!("{number}"),
+    });
+    notation::tables("type Q { f: [Int] }", "{ f }", "", &format!("{{ f: [{items}] }}"))
+}
+
+/// 20 objects of 100 leaves.
+pub fn leaves() -> Tables {
+    leaves_and(String::new(), String::new(), String::new())
+}
+
+/// 20 objects of 99 leaves and a list between them.
+pub fn leaves_and_lists() -> Tables {
+    leaves_and("l50: [Int]".into(), "l50".into(), "l50: [1, 2, 3]".into())
+}
+
+/// 20 objects of 100 fields: leaves, and in place of one of them something else, unless it is empty.
+fn leaves_and(defined: String, selected: String, answered: String) -> Tables {
+    let or_leaf = |field: usize, other: &String, leaf: String| {
+        if field == 50 && !other.is_empty() {
+            other.clone()
+        } else {
+            leaf
+        }
+    };
+    let fields = many(100, |field| or_leaf(field, &defined, format!("f{field}: Int")));
+    let schema = format!("type Q {{ l: [T] }}  type T {{ {fields} }}");
+    let document = many(100, |field| or_leaf(field, &selected, format!("f{field}")));
+    let items = many(20, |object| {
+        let leaf = |field| format!("f{field}: {}", object * 100 + field);
+        format!("T{{ {} }}", many(100, |field| or_leaf(field, &answered, leaf(field))))
+    });
+    let (document, answers) = (format!("{{ l {{ {document} }} }}"), format!("{{ l: [{items}] }}"));
+    notation::tables(&schema, &document, "", &answers)
+}
+
+/// One leaf.
+pub fn one_leaf() -> Tables {
+    notation::tables("type Q { f: Int }", "{ f }", "", "{ f: 1 }")
 }

@@ -21,6 +21,9 @@ fn ordinary_tables() {
     demand_lawful("wide", &ordinary::wide());
     demand_lawful("deep", &ordinary::deep());
     demand_lawful("coerced", &ordinary::coerced());
+    let coercions = ordinary::coercions();
+    demand_lawful("coercions", &coercions);
+    assert_eq!(coercions.selection_count(), 16 + 2_000);
     for ascii in [true, false] {
         let strings = ordinary::strings(ascii);
         demand_lawful("strings", &strings);
@@ -32,6 +35,7 @@ fn ordinary_tables() {
 #[test]
 fn full_tables() {
     demand_lawful("plain", &full::plain());
+    demand_lawful("answered", &full::answered());
     for (what, tables) in full::shared_rows() {
         demand_lawful(what, &tables);
     }

@@ -1,4 +1,5 @@
-//! What the Rust cannot judge: limits, choices, buffers. By document 01 and its readings.
+//! What the Rust cannot judge: limits, choices, buffers. By document 01 and its readings. Plain Rust is
+//! asked as well.
 
 use reading::{run, Lent};
 use tables::{notation, record};
@@ -15,6 +16,16 @@ fn answers_with(lent: Lent<'_>, texts: [&str; 4], expected: &str) {
         code => code.to_string(),
     };
     assert_eq!(line, expected, "\n{schema}\n{document}\n{variables}\n{answers}");
+    let (mut text, mut errors) = (vec![1; lent.text_bytes], vec![1; lent.error_words]);
+    let ran = plain::run_ordered(&tables, lent.choices, &mut text, &mut errors);
+    let words: Vec<u32> = answer.errors.iter().flat_map(|error| error.words()).collect();
+    let counts = (ran.bytes, ran.words, ran.records);
+    assert_eq!(
+        (ran.code, counts),
+        (answer.code, (answer.data.len(), words.len(), answer.errors.len()))
+    );
+    assert_eq!(text[..ran.bytes], *answer.data.as_bytes(), "{document}");
+    assert_eq!(errors[..ran.words], words, "{document}");
 }
 
 fn answers(schema: &str, document: &str, answers: &str, expected: &str) {

@@ -3,6 +3,7 @@
 
 use oracle::judge::{self, CannotJudge, Depth};
 use reading::Lent;
+use std::str;
 use tables::{file, notation, record, Tables};
 
 /// Tables from texts. Every test's tables go through a table file and back as well.
@@ -15,9 +16,15 @@ pub fn tables(schema: &str, document: &str, variables: &str, answers: &str) -> T
     built
 }
 
-/// Where the oracle has an answer, document 01 as it is read beside it has the same.
-fn compare_with_reading(tables: &Tables) {
+/// Where the oracle has an answer, document 01 as it is read beside it has the same, and so has plain
+/// Rust.
+fn compare_with_others(tables: &Tables) {
     let Ok(answered) = judge::run(tables) else { return };
+    let words: Vec<u32> = answered.errors.iter().flat_map(|error| error.words()).collect();
+    let (mut text, mut errors) = ([1; 4_096], [1; 512]);
+    let ran = plain::run(tables, &mut text, &mut errors);
+    let data = str::from_utf8(&text[..ran.bytes]);
+    assert_eq!((ran.code, data, &errors[..ran.words]), (0, Ok(&*answered.data), &*words));
     let read = reading::run(tables, Lent::default()).expect("tests are small");
     assert_eq!((read.code, read.data, read.errors), (0, answered.data, answered.errors));
 }
@@ -39,7 +46,7 @@ pub fn gives(schema: &str, document: &str, answers: &str, expected: &str) {
 pub fn gives_with(schema: &str, document: &str, variables: &str, answers: &str, expected: &str) {
     let tables = tables(schema, document, variables, answers);
     let line = run_line(&tables, expected.contains('@'));
-    compare_with_reading(&tables);
+    compare_with_others(&tables);
     assert_eq!(line, expected, "\n{schema}\n{document}\n{variables}\n{answers}");
 }
 

@@ -114,7 +114,7 @@ impl Reader {
         let width = word_tables.iter().find(|(name, ..)| *name == table);
         let width = width.map_or(1, |(_, width, _)| *width);
         let count = self.words(table).len() - start;
-        if count > 0 && count % width == 0 {
+        if count > 0 && count.is_multiple_of(width) {
             return Ok(());
         }
         let words = if count == 1 { "word" } else { "words" };
