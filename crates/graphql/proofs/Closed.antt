@@ -17,8 +17,8 @@ use Rattle.rows.specs.declared.json.Literal.{Literal}
 use Rattle.rows.specs.declared.json.Literal.the-variants as literal
 use Rattle.rows.specs.declared.answers.Answer.{Answer}
 use Rattle.rows.specs.declared.answers.Answer.the-variants as answer
-use Rattle.graphql.specs.declared.errors.FieldError.{FieldError}
-use Rattle.graphql.specs.Outcome.{tooFar, tooManyFields, variableInLiteral}
+use Rattle.codes.specs.declared.errors.FieldError.{FieldError}
+use Rattle.codes.specs.Outcome.{tooFar, tooManyFields, variableInLiteral}
 use Rattle.graphql.specs.Run.{Path, here, M, pure, halt, fail, when, _>>=_, inOrder}
 use Rattle.graphql.specs.Json.{Json}
 use Rattle.graphql.specs.Errors.{errorOf}

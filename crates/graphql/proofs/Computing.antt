@@ -14,7 +14,7 @@ unfolding Rattle.graphql.specs.Run.after Rattle.graphql.specs.Ru
     Rattle.graphql.specs.Json.containersOfItems Rattle.graphql.specs.Json.containersOfMembers
     Rattle.graphql.specs.Json.sortOf Rattle.graphql.specs.Json.isA Rattle.graphql.specs.Json.stringOf
     Rattle.graphql.specs.Data.entries Rattle.graphql.specs.Data.fields Rattle.graphql.specs.Data.printData
-    Rattle.graphql.specs.Data.printEntries Rattle.graphql.specs.Data.printFields Rattle.graphql.specs.Errors.placeOf
+    Rattle.graphql.specs.Data.printEntries Rattle.graphql.specs.Data.printFields Rattle.codes.specs.Errors.placeOf
     Rattle.graphql.specs.Errors.placeAmong Rattle.graphql.specs.Errors.errorOf Rattle.graphql.specs.Lookup.rowsFrom
     Rattle.graphql.specs.Lookup.rowsIn Rattle.graphql.specs.Lookup.find Rattle.graphql.specs.Lookup.any
     Rattle.graphql.specs.Lookup.nonNullRef Rattle.graphql.specs.Lookup.nonNull Rattle.graphql.specs.Lookup.typeNamed
@@ -87,9 +87,9 @@ unfolding Rattle.graphql.specs.Run.after Rattle.graphql.specs.Ru
     Rattle.text.specs.Numbers.zero Rattle.text.specs.Numbers.int Rattle.text.specs.Numbers.frac Rattle.text.specs.Numbers.sign
     Rattle.text.specs.Numbers.exp Rattle.text.specs.Numbers.fracOrExp Rattle.text.specs.Numbers.isFloat Rattle.text.specs.Utf8.octetsAfter
     Rattle.text.specs.Utf8.isUtf8 Rattle.text.specs.Utf8.allowed Rattle.text.specs.Utf8.characterNumber
-    Rattle.writing.specs.Decimal.decimalWithin Rattle.writing.specs.Decimal.decimal Rattle.writing.specs.Escape.escapeLetter
-    Rattle.writing.specs.Escape.hexDigit Rattle.writing.specs.Escape.escaped Rattle.writing.specs.Escape.escapedAll
-    Rattle.writing.specs.Escape.quoted Rattle.writing.specs.Wrote.written Rattle.writing.specs.Wrote.saturated
+    Rattle.tokens.specs.Decimal.decimalWithin Rattle.tokens.specs.Decimal.decimal Rattle.tokens.specs.Escape.escapeLetter
+    Rattle.tokens.specs.Escape.hexDigit Rattle.tokens.specs.Escape.escaped Rattle.tokens.specs.Escape.escapedAll
+    Rattle.tokens.specs.Escape.quoted Rattle.writing.specs.Wrote.written Rattle.writing.specs.Wrote.saturated
     Rattle.writing.specs.Wrote.bracketed Rattle.writing.specs.Wrote.closed Rattle.writing.specs.Wrote.closedEnd
     Rattle.writing.specs.Wrote.turnedIntoPlace mathlib.Core.Bool.decide mathlib.Core.List.filterMap
 computing = true

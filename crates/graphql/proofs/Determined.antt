@@ -2,7 +2,7 @@
 use mathlib.Core.Path.{sym, _∙_}
 use mathlib.Core.List.{List}
 use Prim.Native.Nat.{ℕ}
-use Rattle.graphql.specs.declared.report.Reported.{Reported}
+use Rattle.codes.specs.declared.report.Reported.{Reported}
 use Rattle.graphql.specs.Report.{Report, Reports}
 use Rattle.graphql.specs.Determined.{TableCheckDetermined, Same, RunDetermined, OrderedRunDetermined}
 

@@ -2,7 +2,7 @@
 -- them are errors that are made there. Assumes nothing.
 use mathlib.Core.List.{[], _∷_}
 use Prim.Native.Nat.{ℕ}
-use Rattle.graphql.specs.declared.errors.FieldError.{FieldError}
+use Rattle.codes.specs.declared.errors.FieldError.{FieldError}
 use Rattle.graphql.specs.Run.{Path, Log, M}
 use Rattle.graphql.specs.Errors.{errorOf}
 use Rattle.graphql.proofs.Meets.{Meets, Mono, meets-pure, meets-halt, meets-fail, meets-when, meets-then, meets-weaken, meets-inOrder}

@@ -11,7 +11,7 @@ use Rattle.rows.specs.declared.schema.TypeRef.{TypeRef}
 use Rattle.rows.specs.declared.schema.TypeRef.the-variants as ref
 use Rattle.rows.specs.declared.schema.TypeKind.{TypeKind}
 use Rattle.rows.specs.declared.schema.TypeKind.the-variants as kind
-use Rattle.graphql.specs.declared.errors.FieldError.{FieldError}
+use Rattle.codes.specs.declared.errors.FieldError.{FieldError}
 use Rattle.graphql.specs.Run.{name, index, Path, skipped, Log, M, pure, _>>=_}
 use Rattle.graphql.specs.Json.{Json}
 use Rattle.graphql.specs.Data.{leaf, Val, absent, val}

@@ -10,7 +10,7 @@ use Rattle.rows.specs.declared.schema.TypeRef.the-variants as ref
 use Rattle.rows.specs.declared.schema.TypeKind.{TypeKind}
 use Rattle.rows.specs.declared.schema.TypeKind.the-variants as kind
 use Rattle.rows.specs.declared.answers.Answer.{Answer}
-use Rattle.graphql.specs.declared.errors.FieldError.{FieldError}
+use Rattle.codes.specs.declared.errors.FieldError.{FieldError}
 use Rattle.graphql.specs.Run.{Path, M}
 use Rattle.graphql.specs.Data.{Val}
 use Rattle.graphql.specs.Collect.{Group, collect}

@@ -16,9 +16,9 @@ use Rattle.rows.specs.declared.schema.TypeRef.{TypeRef}
 use Rattle.rows.specs.declared.schema.TypeRef.the-variants as ref
 use Rattle.rows.specs.declared.schema.TypeKind.{TypeKind}
 use Rattle.rows.specs.declared.schema.TypeKind.the-variants as kind
-use Rattle.graphql.specs.declared.errors.FieldError.{FieldError}
-use Rattle.graphql.specs.declared.errors.FieldError.the-variants as error
-use Rattle.graphql.specs.Outcome.{tooFar, mostOpen}
+use Rattle.codes.specs.declared.errors.FieldError.{FieldError}
+use Rattle.codes.specs.declared.errors.FieldError.the-variants as error
+use Rattle.codes.specs.Outcome.{tooFar, mostOpen}
 use Rattle.graphql.specs.Run.{Path, here, M, pure, halt, fail, when, inOrder, _>>=_}
 use Rattle.graphql.specs.Json.{Json, null, array, object, items, members}
 use Rattle.graphql.specs.Errors.{errorOf}

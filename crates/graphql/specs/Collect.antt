@@ -16,7 +16,7 @@ use Rattle.rows.specs.declared.document.Condition.the-variants as condition
 use Rattle.rows.specs.declared.document.Selected.{Selected}
 use Rattle.rows.specs.declared.document.Selected.the-variants as selected
 use Rattle.rows.specs.declared.document.Selection.{Selection}
-use Rattle.graphql.specs.Outcome.{tooFar, tooManyFields, mostOpen, mostCollected}
+use Rattle.codes.specs.Outcome.{tooFar, tooManyFields, mostOpen, mostCollected}
 use Rattle.graphql.specs.Run.{M, pure, halt, when, _>>=_}
 use Rattle.graphql.specs.Lookup.{typeNamed, lists, fragmentNamed, variableNamed, selectionsOf, any}
 use Rattle.graphql.specs.Values.{NodeForm, isNull, isBool, isOther, nodeForm}

@@ -18,9 +18,9 @@ use Rattle.rows.specs.declared.answers.Answer.{Answer}
 use Rattle.rows.specs.declared.answers.Answer.the-variants as answer
 use Rattle.rules.specs.Schema.{objectKind}
 use Rattle.tables.specs.Tables.{Tables}
-use Rattle.graphql.specs.declared.errors.FieldError.{FieldError}
-use Rattle.graphql.specs.declared.errors.FieldError.the-variants as error
-use Rattle.graphql.specs.Outcome.{tooFar, mostOpen, mostSegments}
+use Rattle.codes.specs.declared.errors.FieldError.{FieldError}
+use Rattle.codes.specs.declared.errors.FieldError.the-variants as error
+use Rattle.codes.specs.Outcome.{tooFar, mostOpen, mostSegments}
 use Rattle.graphql.specs.Run.{Path, name, index, skipped, here, pastList, M, pure, halt, fail, orElse, passed, when, note, anyOrder, inOrder, _>>=_}
 use Rattle.graphql.specs.Json.{Json, null, string, containers, aNull, aBoolean, anInt, aLong, aFloat, aString, isA, stringOf}
 use Rattle.graphql.specs.Data.{Data, nulled, leaf, list, object, Val, absent, val, entries, fields}

@@ -2,8 +2,8 @@
 -- resolver answered is a leaf. Read it after Json.
 use mathlib.Core.List.{List, [], _∷_, _++_}
 use Prim.Native.Nat.{ℕ}
-use Rattle.writing.specs.Escape.{quoted}
-use Rattle.writing.specs.Literal.{nullName}
+use Rattle.tokens.specs.Escape.{quoted}
+use Rattle.tokens.specs.Literal.{nullName}
 use Rattle.writing.specs.Wrote.{bracketed}
 use Rattle.graphql.specs.Json.{Json, print}
 

@@ -12,8 +12,8 @@ use Rattle.rows.specs.declared.document.Selected.the-variants as selected
 use Rattle.rows.specs.declared.document.FieldSelection.{FieldSelection}
 use Rattle.tables.specs.Tables.{Tables}
 use Rattle.tables.specs.Lawful.{lawful}
-use Rattle.graphql.specs.Outcome.{codeOf, mostOpen}
-use Rattle.graphql.specs.declared.outcome.Outcome.the-variants.{Answered, Unlawful, TooFar, TooDeep}
+use Rattle.codes.specs.Outcome.{codeOf, mostOpen}
+use Rattle.codes.specs.declared.outcome.Outcome.the-variants.{Answered, Unlawful, TooFar, TooDeep}
 use Rattle.rows.specs.Names.{'fields, 'inputFields}
 use Rattle.graphql.specs.Lookup.{fragmentNamed, selectionsOf}
 

@@ -5,7 +5,7 @@ use mathlib.Core.List.{List}
 use Prim.Native.Nat.{ℕ}
 use Rattle.tables.specs.Tables.{Tables}
 use Rattle.tables.specs.Lawful.{tableCode}
-use Rattle.graphql.specs.declared.report.Reported.{Reported}
+use Rattle.codes.specs.declared.report.Reported.{Reported}
 use Rattle.graphql.specs.Run.{Choices}
 use Rattle.graphql.specs.Request.{Request}
 use Rattle.graphql.specs.Report.{report, reportInOrder, Reports}

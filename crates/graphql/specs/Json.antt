@@ -5,9 +5,9 @@ use mathlib.Core.Bool.{Bool, true, false, cond, decide}
 use mathlib.Core.Option.{Option, none, some}
 use Prim.Native.Nat.{ℕ, suc, max}
 use lib.Dec.{ltb, leb}
-use Rattle.writing.specs.Escape.{quoted}
-use Rattle.writing.specs.Decimal.{decimal}
-use Rattle.writing.specs.Literal.{nullName, trueName, falseName}
+use Rattle.tokens.specs.Escape.{quoted}
+use Rattle.tokens.specs.Decimal.{decimal}
+use Rattle.tokens.specs.Literal.{nullName, trueName, falseName}
 use Rattle.writing.specs.Wrote.{bracketed}
 
 -- Strings, keys and the spelling of a float are bytes.

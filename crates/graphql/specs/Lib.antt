@@ -3,7 +3,6 @@ pub mod Run
 pub mod Json
 pub mod Data
 pub mod Errors
-pub mod Outcome
 pub mod Lookup
 pub mod Values
 pub mod Collect

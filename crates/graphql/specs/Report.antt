@@ -13,9 +13,9 @@ use Rattle.rows.specs.Document.{selectionAt}
 use Rattle.rows.specs.declared.document.Selected.{Selected}
 use Rattle.rows.specs.declared.document.Selected.the-variants as selected
 use Rattle.tables.specs.Lawful.{lawful, lawfulBuffers, lawfulChoices}
-use Rattle.graphql.specs.declared.outcome.Outcome.the-variants.{Answered, Unlawful, AsksForSchema, TextTooLong, RecordsTooLong}
-use Rattle.graphql.specs.declared.report.Reported.{Reported}
-use Rattle.graphql.specs.Outcome.{codeOf}
+use Rattle.codes.specs.declared.outcome.Outcome.the-variants.{Answered, Unlawful, AsksForSchema, TextTooLong, RecordsTooLong}
+use Rattle.codes.specs.declared.report.Reported.{Reported}
+use Rattle.codes.specs.Outcome.{codeOf}
 use Rattle.graphql.specs.Run.{name, index, Path, ErrorRecord, Event, err, givenUp, skipped, Log, Choices, Res, stop, failed, done}
 use Rattle.graphql.specs.Data.{Data, nulled, printData}
 use Rattle.rows.specs.Names.{'schema, 'type}

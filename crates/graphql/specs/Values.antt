@@ -14,7 +14,7 @@ use Rattle.rows.specs.declared.json.Node.{Node}
 use Rattle.rows.specs.declared.json.Node.the-variants as node
 use Rattle.rows.specs.declared.json.Literal.{Literal}
 use Rattle.rows.specs.declared.json.Literal.the-variants as literal
-use Rattle.graphql.specs.Outcome.{tooFar, variableInLiteral}
+use Rattle.codes.specs.Outcome.{tooFar, variableInLiteral}
 use Rattle.graphql.specs.Run.{M, pure, halt, inOrder, _>>=_}
 use Rattle.graphql.specs.Json.{Json, null, bool, natural, negative, float, string, array, object, items, members}
 use Rattle.graphql.specs.Lookup.{rowsIn}

@@ -1,4 +1,1 @@
-// What a run means: the definition stands in specs/. What the definition and the code share is declared here.
-pub mod errors;
-pub mod outcome;
-pub mod report;
+// What a run means: the definition stands in specs/. What it shares with the code is declared in `codes`. There is no code here.

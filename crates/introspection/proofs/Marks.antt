@@ -4,7 +4,6 @@ use mathlib.Core.Bool.{Bool, true, false, cond}
 use mathlib.Core.List.{List, [], _∷_}
 use mathlib.Core.Option.{Option, none, some}
 use Prim.Native.Nat.{ℕ, _+_, _-_, _≤_, _<_}
-use native.Mathlib.Nat.{zero-add}
 use native.Mathlib.Omega.{arith}
 use lib.Dec.{eqb}
 use lib.ListN.{length, getD, set, replicate, getD-replicate}
@@ -12,32 +11,16 @@ use lib.Seq.{getD-set-same, getD-set-other}
 use borrow.Author.Tests.{eqb-true, eqb-false}
 use Rattle.rows.specs.Layout.{fragmentWidth}
 use Rattle.rows.specs.Rows.{rowsOf}
-use Rattle.rows.specs.Document.{fragmentAt}
-use Rattle.graphql.specs.Lookup.{rowsFrom, fragmentNamed}
+use Rattle.graphql.specs.Lookup.{fragmentNamed}
 use Rattle.graphql.specs.Depth.{Rises, riseOf}
 use Rattle.introspection.specs.MaxDepth.{Marked, markOf}
-use Rattle.lookup.proofs.Searching.{find-passes, find-below}
-
--- the fragment has this name
-abbrev named : List ℕ → ℕ → ℕ → Bool
-named fragments name row = eqb (fragmentAt fragments row .name) name
+use Rattle.lookup.proofs.Fragments.{row-below, row-named}
 
 module _ (fragments : List ℕ) where
-  -- the row of a name is one of the fragments', and has that name
-  pub row-below : (name row : ℕ) → fragmentNamed fragments name ≡ some row → row < rowsOf fragments fragmentWidth
-  unfolding fragmentNamed
-  row-below name row e = rw zero-add at (find-below (named fragments name) 0 (rowsOf fragments fragmentWidth) row e)
-
-  row-named : (name row : ℕ) → fragmentNamed fragments name ≡ some row → fragmentAt fragments row .name ≡ name
-  unfolding fragmentNamed
-  row-named name row e =
-      eqb-true (fragmentAt fragments row .name) name
-      (find-passes (named fragments name) (rowsFrom 0 (rowsOf fragments fragmentWidth)) row e)
-
   -- nothing is remembered
   pub unmarked : rowsOf fragments fragmentWidth ≤ 64 → Marked fragments (replicate 64 0) []
   unfolding riseOf
-  unmarked few = record { marked = λ name row e. getD-replicate 64 row 0 0 (let l = row-below name row e in omega arith) }
+  unmarked few = record { marked = λ name row e. getD-replicate 64 row 0 0 (let l = row-below fragments name row e in omega arith) }
 
   module _ {marks : List ℕ} {rises : Rises} (m : Marked fragments marks rises) where
     pub not-met : (name row : ℕ) → fragmentNamed fragments name ≡ some row → getD marks row 0 ≡ 0 → riseOf name rises ≡ none
@@ -67,5 +50,5 @@ module _ (fragments : List ℕ) where
             let s : row ≡ row' = cc in
             rw (← s) (getD-set-same marks row (rise + 1) 0 l)
         go name' row' e' false t =
-            let other : row' ≡ row → ⊥ = λ s. eqb-false name name' t (sym (row-named name row e) ∙ (rw (← s) (row-named name' row' e'))) in
+            let other : row' ≡ row → ⊥ = λ s. eqb-false name name' t (sym (row-named fragments name row e) ∙ (rw (← s) (row-named fragments name' row' e'))) in
             getD-set-other marks row row' (rise + 1) 0 other ∙ m .marked name' row' e'

@@ -7,8 +7,8 @@ use native.Mathlib.Omega.{arith}
 use lib.ListN.{replicate}
 use Rattle.tables.specs.Tables.{Tables}
 use Rattle.tables.specs.Lawful.{lawful, tableCode}
-use Rattle.graphql.specs.Outcome.{codeOf}
-use Rattle.graphql.specs.declared.outcome.Outcome.the-variants.{Unlawful}
+use Rattle.codes.specs.Outcome.{codeOf}
+use Rattle.codes.specs.declared.outcome.Outcome.the-variants.{Unlawful}
 use Rattle.graphql.specs.Depth.{Rises, checkSet, answered, depthReport}
 use Rattle.graphql.specs.Depth as defined
 use Rattle.introspection.specs.MaxDepth.{Answers, said, meant, Checks, Walkable}

@@ -1,8 +1,7 @@
 -- The walk, way by way: what a function knows where it returns is what the definition says there. Assumes nothing.
-use mathlib.Core.Path.{_≡_, refl, sym, _∙_}
+use mathlib.Core.Path.{_≡_, refl, _∙_}
 use mathlib.Core.Bool.{Bool, true, false, not, _&&_}
 use mathlib.Core.List.{List}
-use mathlib.Core.Option.{Option, none, some}
 use Prim.Native.Nat.{ℕ, zero, suc, _+_, _-_, _≤_, _<_, max}
 use native.Mathlib.Nat.{add-zero, sub-zero}
 use native.Mathlib.Numerals.{add-one}
@@ -23,39 +22,23 @@ use Rattle.graphql.specs.Lookup.{rowsFrom, rowsIn, selectionsOf, fragmentNamed}
 use Rattle.graphql.specs.Depth.{Rises, andThen, childSet, checkField, metAgain, remembered, checkFragment, checkSpread, checkSelected, checkSelections, checkSet}
 use Rattle.graphql.specs.Depth as defined
 use Rattle.lookup.specs.Found.{rowOf}
+use Rattle.lookup.proofs.Fragments.{found-none, found-some, row-below}
 use Rattle.introspection.specs.MaxDepth.{Marked, Checks, Walkable, ChecksSet, ChecksSelection, ChecksField, ChecksChild, ChecksSpread}
 use Rattle.introspection.specs.declared.max_depth.Checked.{Checked}
 use Rattle.introspection.specs.declared.max_depth.Checked.the-variants.{TooManySets, TooDeep, Depth}
 use Rattle.introspection.proofs.Ends.{level, refused, like, Stopped, stopped, came}
-use Rattle.introspection.proofs.Marks.{row-below, not-met, met, marked-one}
+use Rattle.introspection.proofs.Marks.{not-met, met, marked-one}
 
 -- the walk goes on, with as many marks, at a depth that is not refused
 pub walk-on : {sets fragments marks marks' : List ℕ} {d d' : ℕ} → Walkable sets fragments marks d → length marks' ≡ length marks → d' < 3
     → Walkable sets fragments marks' d'
 walk-on w e l = record { within = w .within; few = w .few; marked = e ∙ w .marked; shallow = l }
 
-module _ (fragments : List ℕ) (name : ℕ) {found : Optional} (e : found ≡ rowOf (fragmentNamed fragments name)) where
-  undefined : found ≡ Absent → fragmentNamed fragments name ≡ none
-  unfolding fragmentNamed
-  undefined h = go (fragmentNamed fragments name) (sym h ∙ e)
-    where
-      go : (o : Option ℕ) → Absent ≡ rowOf o → o ≡ none
-      go none h = refl
-      go (some f) h = absurd (let z : _≡_ {A = ℕ} 0 1 = cc in omega arith)
-
-  at-row : {row : ℕ} → found ≡ Row row → fragmentNamed fragments name ≡ some row
-  unfolding fragmentNamed
-  at-row {row} h = go (fragmentNamed fragments name) (sym h ∙ e)
-    where
-      go : (o : Option ℕ) → Row row ≡ rowOf o → o ≡ some row
-      go none h = absurd (let z : _≡_ {A = ℕ} 0 1 = cc in omega arith)
-      go (some f) h = let s : f ≡ row = cc in rw s
-
 -- a fragment that is there has a mark, and keeps it
 module _ {sets fragments marks : List ℕ} (name : ℕ) {sofar row : ℕ} {found : Optional} (w : Walkable sets fragments marks sofar)
     (e : found ≡ rowOf (fragmentNamed fragments name)) (h : found ≡ Row row) where
   pub mark-there : row < length marks
-  mark-there = omega (arith, row-below fragments name row (at-row fragments name e h), w .few, w .marked)
+  mark-there = omega (arith, row-below fragments name row (found-some (fragmentNamed fragments name) e h), w .few, w .marked)
 
   pub mark-kept : {x : Rises → defined.Checked} {r : Checked} {marks' : List ℕ} → Checks fragments marks x r marks' → row < length marks'
   mark-kept q = omega (arith, mark-there, q .kept)
@@ -138,7 +121,7 @@ module _ (sets selections fragments : List ℕ) (room : ℕ) {marks : List ℕ} 
   module _ (place name sofar : ℕ) {found : Optional} (e : found ≡ rowOf (fragmentNamed fragments name)) where
     pub spread-undefined : found ≡ Absent → ChecksSpread sets selections fragments marks room place name sofar (Depth sofar) marks
     unfolding checkSpread
-    spread-undefined h = rw (undefined fragments name e h) (level fragments (λ rises. defined.depth sofar rises) sofar (λ rises m. refl))
+    spread-undefined h = rw (found-none (fragmentNamed fragments name) e h) (level fragments (λ rises. defined.depth sofar rises) sofar (λ rises m. refl))
 
     module _ {row : ℕ} (h : found ≡ Row row) where
       pub again-deep : (getD marks row 0 ≡ 0 → ⊥) → sofar < 3 → 3 - sofar < getD marks row 0 - 1
@@ -146,14 +129,14 @@ module _ (sets selections fragments : List ℕ) (room : ℕ) {marks : List ℕ} 
       unfolding checkSpread checkFragment metAgain
       again-deep z l o =
           refused fragments {marks = marks} (checkSpread sets selections fragments (checkSet sets selections fragments room) sofar place name (fragmentNamed fragments name)) place
-          (λ rises m. rw (at-row fragments name e h, met fragments m name row (at-row fragments name e h) z, lt-ltb 3 (sofar + (getD marks row 0 - 1)) (omega arith)))
+          (λ rises m. rw (found-some (fragmentNamed fragments name) e h, met fragments m name row (found-some (fragmentNamed fragments name) e h) z, lt-ltb 3 (sofar + (getD marks row 0 - 1)) (omega arith)))
 
       pub again-level : (getD marks row 0 ≡ 0 → ⊥) → sofar < 3 → getD marks row 0 - 1 ≤ 3 - sofar
           → ChecksSpread sets selections fragments marks room place name sofar (Depth sofar) marks
       unfolding checkSpread checkFragment metAgain
       again-level z l o =
           level fragments {marks = marks} (checkSpread sets selections fragments (checkSet sets selections fragments room) sofar place name (fragmentNamed fragments name)) sofar
-          (λ rises m. rw (at-row fragments name e h, met fragments m name row (at-row fragments name e h) z, le-ltb 3 (sofar + (getD marks row 0 - 1)) (omega arith)))
+          (λ rises m. rw (found-some (fragmentNamed fragments name) e h, met fragments m name row (found-some (fragmentNamed fragments name) e h) z, le-ltb 3 (sofar + (getD marks row 0 - 1)) (omega arith)))
 
       module _ {r : Checked} {marks' : List ℕ} {fragment : Fragment} (z : getD marks row 0 ≡ 0) (f : fragment ≡ fragmentAt fragments row)
           (q : ChecksSet sets selections fragments marks room (fragment .set) sofar r marks') where
@@ -161,7 +144,7 @@ module _ (sets selections fragments : List ℕ) (room : ℕ) {marks : List ℕ} 
             → checkSpread sets selections fragments (checkSet sets selections fragments room) sofar place name (fragmentNamed fragments name) rises
             ≡ andThen (checkSet sets selections fragments room (fragment .set) sofar rises) (remembered sets selections fragments (checkSet sets selections fragments room) sofar name)
         unfolding checkSpread checkFragment
-        opened rises m = rw (at-row fragments name e h, not-met fragments m name row (at-row fragments name e h) z, f)
+        opened rises m = rw (found-some (fragmentNamed fragments name) e h, not-met fragments m name row (found-some (fragmentNamed fragments name) e h) z, f)
 
         pub spread-stopped : Stopped r → ChecksSpread sets selections fragments marks room place name sofar r marks'
         spread-stopped s = record {
@@ -176,8 +159,8 @@ module _ (sets selections fragments : List ℕ) (room : ℕ) {marks : List ℕ} 
           kept = length-set marks' row (rise' + 1) ∙ q .kept;
           checks = λ rises m.
               let c = came fragments (checkSet sets selections fragments room (fragment .set) sofar rises) (rw s at (q .checks rises m)) in
-              let l : row < length marks' = omega (arith, row-below fragments name row (at-row fragments name e h), w .few, w .marked, q .kept) in
-              rw (opened rises m, c .1, ← t) (record { what = refl; remembers = marked-one fragments (c .2) name row rise' (at-row fragments name e h) l });
+              let l : row < length marks' = omega (arith, row-below fragments name row (found-some (fragmentNamed fragments name) e h), w .few, w .marked, q .kept) in
+              rw (opened rises m, c .1, ← t) (record { what = refl; remembers = marked-one fragments (c .2) name row rise' (found-some (fragmentNamed fragments name) e h) l });
         }
 
   -- ---- a set
@@ -266,6 +249,3 @@ module _ (sets selections fragments : List ℕ) (room inner sofar : ℕ) {marks�
   set-ended l =
       like fragments (checkSet sets selections fragments room inner sofar) (λ rises₀. checkSelections sets selections fragments (checkSet sets selections fragments (room - 1)) sofar (rowsFrom (range .first) (range .count)) sofar rises₀)
       (λ rises m. rw e (set-opened sets selections fragments room inner sofar rises z)) (going-ended sets selections fragments (room - 1) sofar (range .first) (range .count) marks₀ g l)
-
-pub ruleset walking =
-    (walk-on, mark-there, mark-kept, child-none, child-checked, field-same, field-deep, field-raised, a-field, a-spread, an-inline, an-unknown, spread-undefined, again-deep, again-level, spread-stopped, spread-met, set-full, set-begin, going-again, set-stopped, set-ended)

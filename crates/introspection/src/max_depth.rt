@@ -9,7 +9,7 @@ ghost use Rattle.tables.specs.Tables.{tables};
 ghost use Rattle.rows.specs.Names.{'fields, 'inputFields};
 ghost use Rattle.graphql.specs.Depth.{checkSet, answered, depthReport};
 ghost use Rattle.introspection.specs.MaxDepth.{Answers, meant, Walkable, ChecksSet, ChecksSelection, ChecksField, ChecksChild, ChecksSpread};
-use graphql::outcome::Outcome;
+use codes::outcome::Outcome;
 use lookup::named::fragment_named;
 use rows::document::FieldSelection;
 use rows::document::Selected;

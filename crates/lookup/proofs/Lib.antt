@@ -1,1 +1,4 @@
+pub mod Fragments
+pub mod Members
 pub mod Searching
+pub mod Sets

@@ -2,12 +2,13 @@
 use mathlib.Core.Bool.{Bool, true, false}
 use mathlib.Core.List.{List}
 use mathlib.Core.Option.{Option, none, some}
-use Prim.Native.Nat.{ℕ}
+use Prim.Native.Nat.{ℕ, _+_, _≤_}
 use lib.Dec.{eqb}
+use Rattle.rows.specs.Limits.{mostRows}
 use Rattle.rows.specs.Rows.{cell}
 use Rattle.rows.specs.Strings.{same}
 use Rattle.rows.specs.Names.{nameText}
-use Rattle.rows.specs.Schema.{memberAt}
+use Rattle.rows.specs.Schema.{typeAt, memberAt}
 use Rattle.rows.specs.declared.layout.Optional.{Optional}
 use Rattle.rows.specs.declared.layout.Optional.the-variants.{Absent, Row}
 
@@ -26,3 +27,7 @@ rowOf (some row) = Row row
 abbrev pub isFound : Option ℕ → Bool
 isFound none = false
 isFound (some row) = true
+
+-- the members that each type lists have numbers that are words; lawful tables give it
+pub record Listed (types : List ℕ) : Type 0 where
+  pub within : (type : ℕ) → typeAt types type .members .first + typeAt types type .members .count ≤ mostRows

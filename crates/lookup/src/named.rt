@@ -4,7 +4,7 @@ ghost use mathlib.Core.List.{List};
 ghost use Prim.Native.Nat.{_+_, _≤_};
 ghost use Rattle.rows.specs.Limits.{mostRows};
 ghost use Rattle.rows.specs.Schema.{typeAt};
-ghost use Rattle.graphql.specs.Lookup.{rowsIn, any, typeNamed, lists, hasValue, fieldNamed, fragmentNamed, variableNamed, fieldAnswer};
+ghost use Rattle.graphql.specs.Lookup.{rowsIn, any, nonNull, typeNamed, lists, hasValue, fieldNamed, fragmentNamed, variableNamed, fieldAnswer};
 ghost use Rattle.lookup.specs.Found.{rowOf, isNamed};
 use crate::find::find_in_table;
 use crate::find::find_word;
@@ -24,8 +24,10 @@ use rows::names::name_text;
 use rows::schema::FIELD_WIDTH;
 use rows::schema::MEMBER_WIDTH;
 use rows::schema::TYPE_WIDTH;
+use rows::schema::TypeRef;
 use rows::schema::member_at;
 use rows::schema::type_at;
+use rows::schema::type_ref_at;
 use rows::strings::is_same;
 
 // The type of this name.
@@ -57,6 +59,17 @@ pub fn field_named(types: &[u32], fields: &[u32], ty: u32, name: u32) -> Optiona
     let def = type_at(types, ty);
     let rows = def.fields;
     find_word(fields, FIELD_WIDTH, FIELD_NAME, rows, name)
+}
+
+// Whether a type reference is non-null.
+pub fn is_non_null(type_refs: &[u32], ty: u32) -> bool
+    ensures { λ r. ⌜ r ≡ nonNull (now («type_refs» .entry)) ty ⌝ }
+{
+    match type_ref_at(type_refs, ty) {
+        TypeRef::Named { name: _, nullable } => !nullable,
+        TypeRef::ListOf { inner: _, nullable } => !nullable,
+        TypeRef::Unknown => false,
+    }
 }
 
 // Whether the name is one of the type's values, members or interfaces.

@@ -12,7 +12,7 @@ use Rattle.rules.specs.Rows.{counted}
 use Rattle.rules.specs.Names.{nameSpelled, nameReserved}
 use Rattle.rules.specs.Schema.{typeRow, typeParts, fieldRow, fieldsDiffer, argumentsDiffer, rootType}
 use Rattle.rules.specs.Document.{setRow, selectionRow, givenDiffer, childSetsLarger, selectionOwnsAlone, fragmentOwnsAlone}
-use Rattle.rules.specs.Json.{nodeRow, nodeKeyRow, literalRow, literalKeysDiffer}
+use Rattle.rules.specs.Json.{nodeRow, nodeKeyRow, nodeKeysDiffer, literalRow, literalKeysDiffer}
 use Rattle.rules.specs.Answers.{answerRow, answerNamesDiffer, rootAnswer}
 use Rattle.tables.specs.Tables.{Tables, nameCount, refCount, typeCount, memberCount, fieldCount, argumentCount, setCount, selectionCount, givenCount, fragmentCount, nodeCount, literalCount, variableCount, answerCount}
 use Rattle.tables.specs.Rules.{sizeHolds, obeyed, rowsLawful}
@@ -58,12 +58,18 @@ module _ (T : Tables) where
   abbrev valuesAll : List Bool
   valuesAll = valuesTests (T .pool) (nameCount T) (T .nodes) (T .literals) (T .variables) (T .answers)
 
-  -- the two rules on owners, and those on answers
+  -- the two rules on owners, those on nodes, and those on answers
   abbrev owners-1 : Bool
   owners-1 = all (selectionOwnsAlone (T .selections)) (selectionCount T)
 
   abbrev owners-2 : Bool
   owners-2 = all (fragmentOwnsAlone (T .selections) (T .fragments)) (fragmentCount T)
+
+  abbrev nodes-1 : Bool
+  nodes-1 = all (nodeHolds (T .pool) (nodeCount T) (T .nodes)) (nodeCount T)
+
+  abbrev nodes-2 : Bool
+  nodes-2 = all (nodeKeysDiffer (T .pool) (T .nodes)) (nodeCount T)
 
   abbrev answers-1 : Bool
   answers-1 = all (answerRow (nameCount T) (nodeCount T) (answerCount T) (T .answers)) (answerCount T)
@@ -172,19 +178,19 @@ module _ (T : Tables) where
     each-obeyed (Document document.ChildSetsLarger) =
         all-right (setRow (selectionCount T) (T .sets)) (childSetsLarger (T .sets) (T .selections)) (setCount T) (document-at 5)
     each-obeyed (Value value.NodeRow) =
-        all-right (nodeKeyRow (T .pool) (T .nodes)) (nodeRow (T .pool) (nodeCount T) (T .nodes)) (nodeCount T) (values-at 0)
+        all-right (nodeKeyRow (T .pool) (T .nodes)) (nodeRow (T .pool) (nodeCount T) (T .nodes)) (nodeCount T) (and-left nodes-1 nodes-2 (values-at 0))
     each-obeyed (Value value.NodeKey) =
-        all-left (nodeKeyRow (T .pool) (T .nodes)) (nodeRow (T .pool) (nodeCount T) (T .nodes)) (nodeCount T) (values-at 0)
-    each-obeyed (Value value.NodeKeysDiffer) = values-at 1
+        all-left (nodeKeyRow (T .pool) (T .nodes)) (nodeRow (T .pool) (nodeCount T) (T .nodes)) (nodeCount T) (and-left nodes-1 nodes-2 (values-at 0))
+    each-obeyed (Value value.NodeKeysDiffer) = and-right nodes-1 nodes-2 (values-at 0)
     each-obeyed (Value value.LiteralRow) =
-        all-left (literalRow (T .pool) (nameCount T) (literalCount T) (T .literals)) (literalKeysDiffer (T .literals)) (literalCount T) (values-at 2)
+        all-left (literalRow (T .pool) (nameCount T) (literalCount T) (T .literals)) (literalKeysDiffer (T .literals)) (literalCount T) (values-at 1)
     each-obeyed (Value value.LiteralKeysDiffer) =
-        all-right (literalRow (T .pool) (nameCount T) (literalCount T) (T .literals)) (literalKeysDiffer (T .literals)) (literalCount T) (values-at 2)
-    each-obeyed (Value value.VariableRow) = values-at 3
-    each-obeyed (Value value.VariableNamesDiffer) = values-at 4
-    each-obeyed (Value value.AnswerRow) = and-left answers-1 answers-2 (values-at 5)
-    each-obeyed (Value value.AnswerNamesDiffer) = and-right answers-1 answers-2 (values-at 5)
-    each-obeyed (Value value.RootAnswer) = once-obeyed (rootAnswer (T .answers)) (values-at 6)
+        all-right (literalRow (T .pool) (nameCount T) (literalCount T) (T .literals)) (literalKeysDiffer (T .literals)) (literalCount T) (values-at 1)
+    each-obeyed (Value value.VariableRow) = values-at 2
+    each-obeyed (Value value.VariableNamesDiffer) = values-at 3
+    each-obeyed (Value value.AnswerRow) = and-left answers-1 answers-2 (values-at 4)
+    each-obeyed (Value value.AnswerNamesDiffer) = and-right answers-1 answers-2 (values-at 4)
+    each-obeyed (Value value.RootAnswer) = once-obeyed (rootAnswer (T .answers)) (values-at 5)
 
   -- and all rules together
   module _ (h : rowsLawful T ≡ true) where
@@ -237,14 +243,15 @@ module _ (T : Tables) where
     unfolding conj obeyed nodeHolds literalHolds
     values-hold =
         and-true
+        (and-true
         (all-both (nodeKeyRow (T .pool) (T .nodes)) (nodeRow (T .pool) (nodeCount T) (T .nodes)) (nodeCount T) (o (Value value.NodeKey)) (o (Value value.NodeRow)))
-        (and-true (o (Value value.NodeKeysDiffer))
+        (o (Value value.NodeKeysDiffer)))
         (and-true
         (all-both (literalRow (T .pool) (nameCount T) (literalCount T) (T .literals)) (literalKeysDiffer (T .literals)) (literalCount T)
         (o (Value value.LiteralRow)) (o (Value value.LiteralKeysDiffer)))
         (and-true (o (Value value.VariableRow))
         (and-true (o (Value value.VariableNamesDiffer))
-        (and-true (and-true (o (Value value.AnswerRow)) (o (Value value.AnswerNamesDiffer))) root-answer)))))
+        (and-true (and-true (o (Value value.AnswerRow)) (o (Value value.AnswerNamesDiffer))) root-answer))))
 
     sizes-hold : (conj (schemaSizes T) && (conj (documentSizes T) && conj (valuesSizes T))) ≡ true
     unfolding conj

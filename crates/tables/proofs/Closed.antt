@@ -1,33 +1,63 @@
--- Why marking the literals from the last row on finds every variable inside one: a literal's parts come later, so they are marked
--- before it, and no chain of parts is longer than there are rows. Assumes nothing.
+-- Why the runs, kept from the last row on, find every variable inside a literal: its parts come later, so their runs are kept before it,
+-- and no chain of parts is longer than there are rows. Assumes nothing.
 use mathlib.Core.Path.{_≡_, refl, sym, ap, ap₂, subst, subst⁻¹, _∙_}
-use mathlib.Core.Bool.{Bool, true, false, _&&_, _||_}
+use mathlib.Core.Bool.{Bool, true, false, _&&_, _||_, cond}
 use mathlib.Core.List.{List}
 use Prim.Native.Nat.{ℕ, zero, suc, _+_, _-_, _≤_, _<_}
 use native.Mathlib.Decide.{decLe}
 use native.Mathlib.Omega.{arith}
-use borrow.Author.Tests.{ltb-true, leb-true, ne-eqb}
-use lib.ListN.{length, getD, set, length-set}
+use borrow.Author.Tests.{ltb-true, leb-true, le-leb, lt-leb, eqb-true, ne-eqb}
+use lib.ListN.{length, getD, set, length-set, replicate, length-replicate, getD-replicate}
 use lib.Seq.{getD-set-same, getD-set-other}
 use lib.Dec.{ltb, leb, eqb}
 use Rattle.rows.specs.Layout.{fieldWidth, argumentWidth, literalWidth}
 use Rattle.rows.specs.Limits.{mostLiterals}
 use Rattle.rows.specs.Rows.{all, rowsOf}
 use Rattle.rows.specs.Schema.{fieldAt, argumentAt}
-use Rattle.rows.specs.Json.{literalAt}
+use Rattle.rows.specs.Json.{literalOf, literalAt}
 use Rattle.rules.specs.Rows.{rowOrNone}
 use Rattle.tables.specs.Defaults.{eachOf, closedBut, closedTo, closed, defaultClosed, fieldDefault, argumentDefault, defaultsClosed}
-use Rattle.tables.specs.Marking.{mark, unmarked, Marked, partsLater, Nested, Defaulted, defaultUnmarked, fieldUnmarked, argumentUnmarked}
+use Rattle.tables.specs.Marking.{run, inRun, closedIn, Marked, partsLater, Nested, Defaulted, defaultUnmarked, rowUnmarked}
 use Rattle.rows.specs.declared.layout.Range.{Range}
 use Rattle.rows.specs.declared.layout.Optional.{Optional}
 use Rattle.rows.specs.declared.layout.Optional.the-variants.{Absent, Row}
 use Rattle.rows.specs.declared.json.Literal.{Literal}
 use Rattle.rows.specs.declared.json.Literal.the-variants as literal
-use Rattle.rows.proofs.Every.{all-same, and-left, and-right, or-right}
+use Rattle.rows.proofs.Every.{all-none, all-same, all-broken, and-left, and-right, or-right}
 
-mark-reads : (b : Bool) → eqb (mark b) 0 ≡ b
-mark-reads true = refl
-mark-reads false = refl
+longer : (n behind : ℕ) → leb (suc n) (behind + 1) ≡ leb n behind
+longer n behind = go (decLe n behind)
+  where
+    go : Dec (n ≤ behind) → leb (suc n) (behind + 1) ≡ leb n behind
+    go (yes h) = rw (le-leb n behind h) (le-leb (suc n) (behind + 1) (omega arith))
+    go (no h) = rw (lt-leb n behind (omega arith)) (lt-leb (suc n) (behind + 1) (omega arith))
+
+-- none of no rows, one row, and one more at the front
+module _ (p : ℕ → Bool) (row : ℕ) where
+  of-none : (behind : ℕ) → leb 0 behind ≡ all (λ i. p (row + i)) 0
+  of-none behind = le-leb 0 behind (omega arith) ∙ sym (all-none (λ i. p (row + i)))
+
+  of-one : all (λ i. p (row + i)) 1 ≡ p row
+  unfolding all
+  of-one = let e : row + 0 ≡ row = omega arith in rw e
+
+  at-front : p row ≡ true → (n : ℕ) → all (λ i. p (suc row + i)) n ≡ all (λ i. p (row + i)) (suc n)
+  unfolding all
+  at-front h zero = sym (of-one ∙ h)
+  at-front h (suc n) = let e : suc row + n ≡ row + suc n = omega arith in rw (e, at-front h n)
+
+-- only lists, objects and variables are looked at
+module _ (runs : List ℕ) where
+  either : (b : Bool) (x y : Literal) → closedIn runs x ≡ true → closedIn runs y ≡ true → closedIn runs (cond b x y) ≡ true
+  either true x y e f = e
+  either false x y e f = f
+
+  pub no-parts : (kind a b : ℕ) → (kind ≡ 7 → ⊥) → (kind ≡ 8 → ⊥) → (kind ≡ 10 → ⊥) → true ≡ closedIn runs (literalOf kind a b)
+  no-parts kind a b l o v =
+      rw (ne-eqb kind 7 l, ne-eqb kind 8 o, ne-eqb kind 10 v)
+      (sym
+      (either (eqb kind 0) _ _ refl (either (eqb kind 1) _ _ refl (either (eqb kind 2) _ _ refl (either (eqb kind 3) _ _ refl
+      (either (eqb kind 4) _ _ refl (either (eqb kind 5) _ _ refl (either (eqb kind 6) _ _ refl (either (eqb kind 9) _ _ refl refl)))))))))
 
 module _ (literals : List ℕ) (nested : Nested literals) where
   abbrev count : ℕ
@@ -76,66 +106,124 @@ module _ (literals : List ℕ) (nested : Nested literals) where
   unfolding closedTo
   one-more row = refl
 
-  -- a row whose later rows are marked as they are is closed as its marks say
-  row-closed : (marks : List ℕ) (row : ℕ) → row < count → Marked literals marks (suc row)
-      → closedBut (unmarked marks) (literalAt literals row) ≡ closed literals row
-  row-closed marks row h m =
-      parts-same (unmarked marks) (closedTo literals count) row (literalAt literals row) (nested .parts row h) (λ k l j. m .right k l j)
+  -- the parts of a literal, by the runs behind it
+  parts-in : (runs : List ℕ) (row : ℕ) (rows : Range) → ((eqb (rows .count) 0 || ltb row (rows .first)) && leb (rows .first + rows .count) count) ≡ true
+      → Marked literals runs (suc row) → inRun runs rows ≡ eachOf (closed literals) rows
+  parts-in runs row rows l m = go (eqb (rows .count) 0) refl
+    where
+      go : (b : Bool) → eqb (rows .count) 0 ≡ b → inRun runs rows ≡ eachOf (closed literals) rows
+      go true e = rw (eqb-true (rows .count) 0 e) (of-none (closed literals) (rows .first) (getD runs (rows .first) 0))
+      go false e =
+          let end : rows .first + rows .count ≤ count =
+          leb-true (rows .first + rows .count) count (and-right (eqb (rows .count) 0 || ltb row (rows .first)) (leb (rows .first + rows .count) count) l) in
+          m .right rows
+          (ltb-true row (rows .first)
+          (or-right (eqb (rows .count) 0) (ltb row (rows .first))
+          (and-left (eqb (rows .count) 0 || ltb row (rows .first)) (leb (rows .first + rows .count) count) l) e))
+          end
+
+  closed-in : (runs : List ℕ) (row : ℕ) (l : Literal) → partsLater count row l ≡ true → Marked literals runs (suc row)
+      → closedIn runs l ≡ closedBut (closed literals) l
+  closed-in runs row literal.Null e m = refl
+  closed-in runs row literal.False e m = refl
+  closed-in runs row literal.True e m = refl
+  closed-in runs row (literal.Natural n) e m = refl
+  closed-in runs row (literal.Negative k) e m = refl
+  closed-in runs row (literal.Float text) e m = refl
+  closed-in runs row (literal.String text) e m = refl
+  closed-in runs row (literal.List rows) e m = parts-in runs row rows e m
+  closed-in runs row (literal.Object rows) e m = parts-in runs row rows e m
+  closed-in runs row (literal.Enum name) e m = refl
+  closed-in runs row (literal.Variable name) e m = refl
+  closed-in runs row literal.Unknown e m = refl
+
+  row-closed : (runs : List ℕ) (row : ℕ) → row < count → Marked literals runs (suc row) → closedIn runs (literalAt literals row) ≡ closed literals row
+  row-closed runs row h m =
+      closed-in runs row (literalAt literals row) (nested .parts row h) m
       ∙ (one-more row ∙ deep-enough (suc count) count row h (omega arith) (omega arith))
 
-  mark-here : (marks : List ℕ) (row : ℕ) → row < count → Marked literals marks (suc row)
-      → unmarked (set marks row (mark (closedBut (unmarked marks) (literalAt literals row)))) row ≡ closed literals row
-  mark-here marks row h m =
-      rw (getD-set-same marks row (mark (closedBut (unmarked marks) (literalAt literals row))) 0 (omega (arith, m .size, nested .few)))
-      (mark-reads (closedBut (unmarked marks) (literalAt literals row)) ∙ row-closed marks row h m)
+  -- the run that begins at a row
+  run-here : (runs : List ℕ) (row n : ℕ) → row + n ≤ count → Marked literals runs (suc row) → (c : Bool) → closed literals row ≡ c
+      → leb n (run c (getD runs (suc row) 0)) ≡ all (λ i. closed literals (row + i)) n
+  run-here runs row zero h m c e = of-none (closed literals) row (run c (getD runs (suc row) 0))
+  run-here runs row (suc n) h m true e =
+      longer n (getD runs (suc row) 0)
+      ∙ (m .right (record { first = suc row; count = n }) (omega arith) (omega arith) ∙ at-front (closed literals) row e n)
+  run-here runs row (suc n) h m false e =
+      let s : row + 0 ≡ row = omega arith in
+      lt-leb (suc n) 0 (omega arith) ∙ all-broken (λ i. closed literals (row + i)) 0 (suc n) false (omega arith) (rw s (sym e)) refl
 
-  mark-other : (marks : List ℕ) (row v k : ℕ) → Marked literals marks (suc row) → suc row ≤ k → k < count
-      → unmarked (set marks row v) k ≡ closed literals k
-  mark-other marks row v k m l j = rw (getD-set-other marks row k v 0 (λ e. omega arith)) (m .right k l j)
+  low-here : (runs : List ℕ) (row : ℕ) → row < mostLiterals → Marked literals runs (suc row) → (c : Bool) → row + run c (getD runs (suc row) 0) ≤ mostLiterals
+  low-here runs row h m true = omega (arith, m .low (suc row) (omega arith) (omega arith))
+  low-here runs row h m false = omega arith
 
-  -- marking one more row
-  pub mark-more : (marks : List ℕ) (row : ℕ) → row < count → Marked literals marks (suc row)
-      → Marked literals (set marks row (mark (closedBut (unmarked marks) (literalAt literals row)))) row
-  mark-more marks row h m = record {
-    size = length-set marks row _ ∙ m .size;
-    right = λ k l j. go k l j (decLe (suc row) k);
-  }
+  abbrev kept : List ℕ → ℕ → ℕ
+  kept runs row = run (closed literals row) (getD runs (suc row) 0)
+
+  -- one row more
+  mark-more : (runs : List ℕ) (row : ℕ) → row < count → Marked literals runs (suc row)
+      → Marked literals (set runs row (run (closedIn runs (literalAt literals row)) (getD runs (suc row) 0))) row
+  mark-more runs row h m =
+      rw (row-closed runs row h m)
+      (record {
+        size = length-set runs row _ ∙ m .size;
+        low = λ k l j. low k l j (decLe (suc row) k);
+        right = λ rows l j. right rows l j (decLe (suc row) (rows .first));
+      })
     where
-      go : (k : ℕ) → row ≤ k → k < count → Dec (suc row ≤ k)
-          → unmarked (set marks row (mark (closedBut (unmarked marks) (literalAt literals row)))) k ≡ closed literals k
-      go k l j (yes s) = mark-other marks row _ k m s j
-      go k l j (no s) = let e : row ≡ k = omega arith in rw (← e) (mark-here marks row h m)
+      same : getD (set runs row (kept runs row)) row 0 ≡ kept runs row
+      same = getD-set-same runs row (kept runs row) 0 (omega (arith, m .size, nested .few))
 
-  -- nothing is marked yet
-  pub mark-none : (marks : List ℕ) → length marks ≡ mostLiterals → Marked literals marks count
-  mark-none marks e = record { size = e; right = λ k l j. absurd (omega arith) }
+      low : (k : ℕ) → row ≤ k → k ≤ mostLiterals → Dec (suc row ≤ k) → k + getD (set runs row (kept runs row)) k 0 ≤ mostLiterals
+      low k l j (yes s) = rw (getD-set-other runs row k (kept runs row) 0 (λ e. omega arith)) (m .low k s j)
+      low k l j (no s) =
+          let e : k ≡ row = omega arith in rw (e, same) (low-here runs row (omega (arith, nested .few)) m (closed literals row))
+
+      right : (rows : Range) → row ≤ rows .first → rows .first + rows .count ≤ count → Dec (suc row ≤ rows .first)
+          → inRun (set runs row (kept runs row)) rows ≡ eachOf (closed literals) rows
+      right rows l j (yes s) = rw (getD-set-other runs row (rows .first) (kept runs row) 0 (λ e. omega arith)) (m .right rows s j)
+      right rows l j (no s) =
+          let e : rows .first ≡ row = omega arith in
+          rw (e, same) (run-here runs row (rows .count) (omega arith) m (closed literals row) refl)
+
+  -- no row yet
+  pub mark-none : Marked literals (replicate (mostLiterals + 1) 0) count
+  mark-none = record {
+    size = length-replicate {A = ℕ} (mostLiterals + 1) 0;
+    low = λ row l j. rw (getD-replicate {A = ℕ} (mostLiterals + 1) row 0 0 (omega arith)) (omega arith);
+    right = λ rows l j.
+        let e : rows .count ≡ 0 = omega arith in rw e (of-none (closed literals) (rows .first) (getD (replicate (mostLiterals + 1) 0) (rows .first) 0));
+  }
 
   -- one turn, from a row down to the one before it
-  pub mark-turn : (marks marks' : List ℕ) (row : ℕ) → 0 < row → row ≤ count → Marked literals marks row
-      → marks' ≡ set marks (row - 1) (mark (closedBut (unmarked marks) (literalAt literals (row - 1)))) → Marked literals marks' (row - 1)
-  mark-turn marks marks' row p h m e =
+  pub mark-turn : (runs runs' : List ℕ) (row : ℕ) → 0 < row → row ≤ count → Marked literals runs row
+      → runs' ≡ set runs (row - 1) (run (closedIn runs (literalAt literals (row - 1))) (getD runs (row - 1 + 1) 0)) → Marked literals runs' (row - 1)
+  mark-turn runs runs' row p h m e =
       let s : row ≡ suc (row - 1) = omega arith in
-      subst⁻¹ (λ (l : List ℕ). Marked literals l (row - 1)) e
-      (mark-more marks (row - 1) (omega arith) (subst (λ (k : ℕ). Marked literals marks k) s m))
+      let t : row - 1 + 1 ≡ suc (row - 1) = omega arith in
+      subst⁻¹ (λ (l : List ℕ). Marked literals l (row - 1)) (rw t at e)
+      (mark-more runs (row - 1) (omega arith) (subst (λ (k : ℕ). Marked literals runs k) s m))
 
 -- all rows are marked
-pub mark-end : (literals marks : List ℕ) (row : ℕ) → row ≤ 0 → Marked literals marks row → Marked literals marks 0
-mark-end literals marks row h m = let e : row ≡ 0 = omega arith in rw e at m
+pub mark-end : (literals runs : List ℕ) (row : ℕ) → row ≤ 0 → Marked literals runs row → Marked literals runs 0
+mark-end literals runs row h m = let e : row ≡ 0 = omega arith in rw e at m
 
--- a default is closed as its mark says
-pub default-closed : (literals marks : List ℕ) (d : Optional) → Marked literals marks 0 → rowOrNone (rowsOf literals literalWidth) d ≡ true
-    → defaultUnmarked marks d ≡ defaultClosed literals d
-default-closed literals marks Absent m e = refl
-default-closed literals marks (Row row) m e = m .right row (omega arith) (ltb-true row _ e)
+-- a default is closed as its run says
+pub default-closed : (literals runs : List ℕ) (d : Optional) → Marked literals runs 0 → rowOrNone (rowsOf literals literalWidth) d ≡ true
+    → defaultUnmarked runs d ≡ defaultClosed literals d
+default-closed literals runs Absent m e = refl
+default-closed literals runs (Row row) m e =
+    let h : row < rowsOf literals literalWidth = ltb-true row _ e in
+    m .right (record { first = row; count = 1 }) (omega arith) (omega arith) ∙ of-one (closed literals) row
 
--- the defaults are closed as the marks say
-pub defaults-closed : (fields arguments literals marks : List ℕ) → Defaulted fields arguments literals → Marked literals marks 0
-    → (all (fieldUnmarked fields marks) (rowsOf fields fieldWidth) && all (argumentUnmarked arguments marks) (rowsOf arguments argumentWidth))
+-- the defaults are closed as the runs say
+pub defaults-closed : (fields arguments literals runs : List ℕ) → Defaulted fields arguments literals → Marked literals runs 0
+    → (all (rowUnmarked fields fieldWidth 2 runs) (rowsOf fields fieldWidth) && all (rowUnmarked arguments argumentWidth 2 runs) (rowsOf arguments argumentWidth))
     ≡ defaultsClosed fields arguments literals
-unfolding defaultsClosed
-defaults-closed fields arguments literals marks d m =
+unfolding defaultsClosed fieldAt argumentAt
+defaults-closed fields arguments literals runs d m =
     ap₂ _&&_
-    (all-same (fieldUnmarked fields marks) (fieldDefault fields literals) (rowsOf fields fieldWidth)
-    (λ row h. default-closed literals marks (fieldAt fields row .default) m (d .ofFields row h)))
-    (all-same (argumentUnmarked arguments marks) (argumentDefault arguments literals) (rowsOf arguments argumentWidth)
-    (λ row h. default-closed literals marks (argumentAt arguments row .default) m (d .ofArguments row h)))
+    (all-same (rowUnmarked fields fieldWidth 2 runs) (fieldDefault fields literals) (rowsOf fields fieldWidth)
+    (λ row h. default-closed literals runs (fieldAt fields row .default) m (d .ofFields row h)))
+    (all-same (rowUnmarked arguments argumentWidth 2 runs) (argumentDefault arguments literals) (rowsOf arguments argumentWidth)
+    (λ row h. default-closed literals runs (argumentAt arguments row .default) m (d .ofArguments row h)))

@@ -1,6 +1,6 @@
 -- What lawful tables give, by name: how many rows there are, and what is known of each. Assumes nothing.
 use mathlib.Core.Path.{_≡_}
-use mathlib.Core.Bool.{Bool, true, _&&_}
+use mathlib.Core.Bool.{Bool, true, false, not, _&&_}
 use mathlib.Core.List.{List}
 use Prim.Native.Nat.{ℕ, _+_, _*_, _/_, _%_, _≤_, _<_, min}
 use native.Mathlib.Omega.{arith}
@@ -27,7 +27,7 @@ use Rattle.tables.specs.declared.rule.SizeRule.the-variants as size
 use Rattle.tables.specs.declared.rule.SchemaRule.the-variants as schema
 use Rattle.tables.specs.declared.rule.DocumentRule.the-variants as document
 use Rattle.tables.specs.declared.rule.ValueRule.the-variants as value
-use Rattle.rows.proofs.Every.{and-left, and-right}
+use Rattle.rows.proofs.Every.{and-left, and-right, verified}
 use Rattle.tables.proofs.Lawful.{holds-at}
 use Rattle.tables.proofs.Nested.{literal-parts, field-default, argument-default}
 
@@ -268,3 +268,6 @@ module _ (T : Tables) (h : rowsLawful T ≡ true) where
     ofArguments = λ row l.
         argument-default (nameCount T) (refCount T) (literalCount T) (T .arguments) row (holds-at T h (Schema schema.ArgumentRow) row l);
   }
+
+pub searched : (T : Tables) (r : Bool) → r ≡ rowsLawful T → not r ≡ false → Nested (T .literals) × Defaulted (T .fields) (T .arguments) (T .literals)
+searched T r e n = let rows = verified r (rowsLawful T) e n in (nested T rows, defaulted T rows)

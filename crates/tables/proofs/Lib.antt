@@ -3,6 +3,7 @@ pub mod Chained
 pub mod Closed
 pub mod Facts
 pub mod Lawful
+pub mod Looked
 pub mod Nested
 pub mod Numbered
 pub mod Parts

@@ -1,19 +1,20 @@
 -- Rows that have no parts to compare, by their words. Assumes nothing.
-use mathlib.Core.Path.{_≡_, refl, sym}
+use mathlib.Core.Path.{_≡_, refl, sym, ap}
 use mathlib.Core.Bool.{Bool, true, false, not, _||_, cond}
 use mathlib.Core.List.{List}
-use Prim.Native.Nat.{ℕ, _+_, _<_}
+use Prim.Native.Nat.{ℕ, zero, suc, _+_, _<_}
 use native.Mathlib.Omega.{arith}
 use borrow.Author.Tests.{eqb-true, eqb-false, ne-eqb, ltb-true}
 use lib.Dec.{ltb, eqb}
-use Rattle.rows.specs.Layout.{answerWidth}
+use Rattle.rows.specs.Layout.{nodeWidth, answerWidth}
 use Rattle.rows.specs.Rows.{all, cell, optionOf}
-use Rattle.rows.specs.Json.{literalOf}
+use Rattle.rows.specs.Json.{nodeOf, nodeAt, literalOf}
 use Rattle.rows.specs.Answers.{answerAt, answerOf}
 use Rattle.rules.specs.Rows.{isNew, distinct, other}
 use Rattle.rules.specs.Document.{givenOf, selectedOf}
-use Rattle.rules.specs.Json.{literalParts}
+use Rattle.rules.specs.Json.{nodeLawful, literalParts}
 use Rattle.rules.specs.Answers.{answerParts, answerNamesDiffer}
+use Rattle.distinct.specs.Plain.{isPlain}
 use Rattle.tables.specs.ByTable.{plainAnswer}
 use Rattle.rows.specs.declared.layout.Range.{Range}
 use Rattle.rows.specs.declared.document.FieldSelection.{FieldSelection}
@@ -21,6 +22,7 @@ use Rattle.rows.specs.declared.document.Selected.the-variants as selected
 use Rattle.rows.specs.declared.json.Literal.the-variants as literal
 use Rattle.rows.specs.declared.answers.Answer.the-variants as answer
 use Rattle.rows.proofs.Every.{all-none, all-each, or-right}
+use Rattle.distinct.proofs.Plain.{no-object}
 
 -- only a field is given arguments
 pub none-given : (given : List ℕ) (kind name : ℕ) (field : FieldSelection) → (kind ≡ 0 → ⊥) → true ≡ givenOf given (selectedOf kind name field)
@@ -54,6 +56,21 @@ no-keys literals kind a b n =
     go false false false false false false false false true b10 = refl
     go false false false false false false false false false true = refl
     go false false false false false false false false false false = refl
+
+-- nothing is asked of the words of nodes of the first four kinds
+pub small-node : (pool : List ℕ) (count row kind a b : ℕ) → kind < 4 → true ≡ nodeLawful pool count row (nodeOf kind a b)
+small-node pool count row zero a b h = refl
+small-node pool count row (suc zero) a b h = refl
+small-node pool count row (suc (suc zero)) a b h = refl
+small-node pool count row (suc (suc (suc zero))) a b h = refl
+small-node pool count row (suc (suc (suc (suc k)))) a b h = absurd (omega arith)
+
+-- only an object node has keys
+pub no-object-keys : (nodes : List ℕ) (row : ℕ) → (cell nodes nodeWidth row 0 ≡ 8 → ⊥) → true ≡ isPlain nodes row
+unfolding nodeAt
+no-object-keys nodes row n =
+    ap (λ (rows : Range). ltb (rows .count) 2)
+    (no-object (cell nodes nodeWidth row 0) (cell nodes nodeWidth row 1) (cell nodes nodeWidth row 2) n)
 
 -- only an object answer has names
 pub no-names : (answers : List ℕ) (kind a b c : ℕ) → (kind ≡ 4 → ⊥) → true ≡ answerParts answers (answerOf kind a b c)

@@ -17,7 +17,7 @@ use Rattle.rules.specs.Answers.{answerRow, answerNamesDiffer, rootAnswer}
 use Rattle.tables.specs.Tables.{Tables, nameCount, refCount, literalCount}
 use Rattle.tables.specs.Rules.{sizeHolds}
 use Rattle.tables.specs.declared.rule.SizeRule.the-variants as size
-use Rattle.tables.specs.declared.values.Seen.{Seen}
+use Rattle.tables.specs.declared.data.Seen.{Seen}
 
 -- every test of a list passes
 unfoldable pub conj : List Bool → Bool
@@ -87,8 +87,7 @@ documentTests names refs sets selections given fragments literals =
 
 abbrev pub valuesTests : List ℕ → ℕ → List ℕ → List ℕ → List ℕ → List ℕ → List Bool
 valuesTests pool names nodes literals variables answers =
-    all (nodeHolds pool (rowsOf nodes nodeWidth) nodes) (rowsOf nodes nodeWidth)
-    ∷ all (nodeKeysDiffer pool nodes) (rowsOf nodes nodeWidth)
+    (all (nodeHolds pool (rowsOf nodes nodeWidth) nodes) (rowsOf nodes nodeWidth) && all (nodeKeysDiffer pool nodes) (rowsOf nodes nodeWidth))
     ∷ all (literalHolds pool names (rowsOf literals literalWidth) literals) (rowsOf literals literalWidth)
     ∷ all (variableRow names (rowsOf nodes nodeWidth) variables) (rowsOf variables variableWidth)
     ∷ all (variableNameNew variables) (rowsOf variables variableWidth)
@@ -105,14 +104,14 @@ byTable T =
     && conj (valuesTests (T .pool) (nameCount T) (T .nodes) (T .literals) (T .variables) (T .answers))))
 
 -- What is kept on the way.
+-- what was seen of all rows: whether the first test passes at each, and whether the second is known to
+pub record Looked (holds isPlain : ℕ → Bool) (count : ℕ) (seen : Seen) : Type 0 where
+  pub lawful : seen .lawful ≡ all holds count
+  pub plain : seen .plain ≡ true → all isPlain count ≡ true
+
 -- an answer that has fewer than two names to compare
 abbrev pub plainAnswer : List ℕ → ℕ → Bool
 plainAnswer answers row = not (eqb (cell answers answerWidth row 0) 4) || ltb (cell answers answerWidth row 4) 2
-
--- what was seen of all answers: whether each holds by itself, and whether none has names to compare
-pub record Looked (names nodes : ℕ) (answers : List ℕ) (seen : Seen) : Type 0 where
-  pub lawful : seen .lawful ≡ all (answerRow names nodes (rowsOf answers answerWidth) answers) (rowsOf answers answerWidth)
-  pub plain : seen .plain ≡ true → all (plainAnswer answers) (rowsOf answers answerWidth) ≡ true
 
 -- For each selection 0, or a later one: those from it up to that were looked at in this set or a larger one, and their child sets are
 -- larger than this one.

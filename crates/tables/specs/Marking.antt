@@ -1,44 +1,61 @@
--- How the check finds a variable in a default: it marks each literal, from the last to the first. No public contract cites this.
+-- How the check finds a variable in a default: of each literal, from the last to the first, it keeps how many from it on, one behind the
+-- other, have no variable in them. No public contract cites this.
 use mathlib.Core.List.{List}
 use mathlib.Core.Bool.{Bool, true, false}
 use mathlib.Core.Path.{_≡_}
-use Prim.Native.Nat.{ℕ, _≤_, _<_}
+use Prim.Native.Nat.{ℕ, _+_, _≤_, _<_}
 use lib.ListN.{length, getD}
-use lib.Dec.{eqb}
+use lib.Dec.{leb}
 use Rattle.rows.specs.Layout.{fieldWidth, argumentWidth, literalWidth}
 use Rattle.rows.specs.Limits.{mostLiterals}
-use Rattle.rows.specs.Rows.{rowsOf}
+use Rattle.rows.specs.Rows.{rowsOf, cell, optionOf}
 use Rattle.rows.specs.Schema.{fieldAt, argumentAt}
 use Rattle.rows.specs.Json.{literalAt}
 use Rattle.rules.specs.Rows.{rowOrNone, later}
+use Rattle.rows.specs.declared.layout.Range.{Range}
 use Rattle.rows.specs.declared.layout.Optional.{Optional}
 use Rattle.rows.specs.declared.layout.Optional.the-variants.{Absent, Row}
 use Rattle.rows.specs.declared.json.Literal.{Literal}
 use Rattle.rows.specs.declared.json.Literal.the-variants as literal
-use Rattle.tables.specs.Defaults.{closed}
+use Rattle.tables.specs.Defaults.{eachOf, closed}
 
--- 0 where no variable stands in a literal, 1 where one does
-abbrev pub mark : Bool → ℕ
-mark true = 0
-mark false = 1
+-- a run that begins at a literal, by whether no variable stands in it and by the run behind it
+abbrev pub run : Bool → ℕ → ℕ
+run true behind = behind + 1
+run false behind = 0
 
-abbrev pub unmarked : List ℕ → ℕ → Bool
-unmarked marks row = eqb (getD marks row 0) 0
+-- the rows are in the run that begins at the first of them
+abbrev pub inRun : List ℕ → Range → Bool
+inRun runs rows = leb (rows .count) (getD runs (rows .first) 0)
+
+-- a literal is no variable, and its parts are in one run
+abbrev pub closedIn : List ℕ → Literal → Bool
+closedIn runs literal.Null = true
+closedIn runs literal.False = true
+closedIn runs literal.True = true
+closedIn runs (literal.Natural n) = true
+closedIn runs (literal.Negative m) = true
+closedIn runs (literal.Float text) = true
+closedIn runs (literal.String text) = true
+closedIn runs (literal.List rows) = inRun runs rows
+closedIn runs (literal.Object rows) = inRun runs rows
+closedIn runs (literal.Enum name) = true
+closedIn runs (literal.Variable name) = false
+closedIn runs literal.Unknown = true
 
 abbrev pub defaultUnmarked : List ℕ → Optional → Bool
-defaultUnmarked marks Absent = true
-defaultUnmarked marks (Row row) = unmarked marks row
+defaultUnmarked runs Absent = true
+defaultUnmarked runs (Row row) = inRun runs (record { first = row; count = 1 })
 
-abbrev pub fieldUnmarked : List ℕ → List ℕ → ℕ → Bool
-fieldUnmarked fields marks row = defaultUnmarked marks (fieldAt fields row .default)
+-- the default in a column of a row
+abbrev pub rowUnmarked : List ℕ → ℕ → ℕ → List ℕ → ℕ → Bool
+rowUnmarked t width column runs row = defaultUnmarked runs (optionOf (cell t width row column))
 
-abbrev pub argumentUnmarked : List ℕ → List ℕ → ℕ → Bool
-argumentUnmarked arguments marks row = defaultUnmarked marks (argumentAt arguments row .default)
-
--- every literal from a row on is marked as it is
-pub record Marked (literals marks : List ℕ) (from : ℕ) : Type 0 where
-  pub size : length marks ≡ mostLiterals
-  pub right : (row : ℕ) → from ≤ row → row < rowsOf literals literalWidth → unmarked marks row ≡ closed literals row
+-- the runs are right from a row on; none is longer than there is room for literals
+pub record Marked (literals runs : List ℕ) (from : ℕ) : Type 0 where
+  pub size : length runs ≡ mostLiterals + 1
+  pub low : (row : ℕ) → from ≤ row → row ≤ mostLiterals → row + getD runs row 0 ≤ mostLiterals
+  pub right : (rows : Range) → from ≤ rows .first → rows .first + rows .count ≤ rowsOf literals literalWidth → inRun runs rows ≡ eachOf (closed literals) rows
 
 -- What the marking rests on: the parts of a literal come later than it, and there are not too many literals.
 abbrev pub partsLater : ℕ → ℕ → Literal → Bool

@@ -1,148 +1,116 @@
 // Defaults contain no variable. A literal may be a part of many others, so each is looked at once, the last row first: its parts
-// come later and are marked already.
+// come later. What is kept of each is how long a run of literals without a variable begins there; a range of parts then takes one look.
 ghost use mathlib.Core.Path.{_≡_};
-ghost use Prim.Native.Nat.{_<_};
-ghost use lib.ListN.{length, set};
-ghost use Rattle.rows.specs.Layout.{fieldWidth, argumentWidth};
+ghost use Prim.Native.Nat.{_+_, _≤_, _<_};
+ghost use lib.ListN.{getD, set};
+ghost use Rattle.rows.specs.Layout.{literalWidth};
 ghost use Rattle.rows.specs.Limits.{mostLiterals};
-ghost use Rattle.rows.specs.Rows.{rowsOf, all};
-ghost use Rattle.rows.specs.Json.{literalAt};
-ghost use Rattle.tables.specs.Defaults.{eachOf, closedBut, defaultsClosed};
-ghost use Rattle.tables.specs.Marking.{mark, unmarked, Marked, Nested, Defaulted, defaultUnmarked, fieldUnmarked, argumentUnmarked};
+ghost use Rattle.rows.specs.Rows.{rowsOf, all, optionOf};
+ghost use Rattle.rows.specs.Json.{literalOf, literalAt};
+ghost use Rattle.tables.specs.Defaults.{defaultsClosed};
+ghost use Rattle.tables.specs.Marking.{run, inRun, closedIn, Marked, Nested, Defaulted, defaultUnmarked, rowUnmarked};
+use rows::columns::ARGUMENT_DEFAULT;
+use rows::columns::FIELD_DEFAULT;
+use rows::columns::LITERAL_KIND;
+use rows::columns::LITERAL_ONE;
+use rows::columns::LITERAL_TWO;
 use rows::json::LITERAL_WIDTH;
-use rows::json::Literal;
-use rows::json::literal_at;
-use rows::layout::Optional;
 use rows::layout::Range;
 use rows::layout::row_count;
+use rows::layout::word;
 use rows::limits::MOST_LITERALS;
 use rows::schema::ARGUMENT_WIDTH;
 use rows::schema::FIELD_WIDTH;
-use rows::schema::argument_at;
-use rows::schema::field_at;
 
-fn is_unmarked(marks: &[u8], row: usize) -> bool
-    ensures { λ r. ⌜ r ≡ unmarked (now (marks .entry)) row ⌝ }
+// The run that begins at a row; none past the last one.
+fn run_at(runs: &[u16], row: usize) -> u16
+    ensures { λ r. ⌜ r ≡ getD (now (runs .entry)) row 0 ⌝ }
 {
-    if row < marks.len() {
-        marks[row] == 0
-    } else {
-        true
-    }
+    if row < runs.len() { runs[row] } else { 0 }
 }
 
-fn parts_are_unmarked(marks: &[u8], rows: Range) -> bool
-    ensures { λ r. ⌜ r ≡ eachOf (unmarked (now (marks .entry))) rows ⌝ }
+fn is_in_run(runs: &[u16], rows: Range) -> bool
+    ensures { λ r. ⌜ r ≡ inRun (now (runs .entry)) rows ⌝ }
 {
-    let first = rows.first as usize;
     let count = rows.count;
-    let mut i: u32 = 0;
-    while i < count {
-        if !is_unmarked(marks, first + (i as usize)) {
-            return false;
-        }
-        i += 1;
-    }
-    true
+    count <= (run_at(runs, rows.first as usize) as u32)
 }
 
-fn is_closed_but(marks: &[u8], literal: Literal) -> bool
-    ensures { λ r. ⌜ r ≡ closedBut (unmarked (now (marks .entry))) literal ⌝ }
+// Of a literal's words: whether it is no variable and all its parts are in one run.
+fn is_closed(runs: &[u16], kind: u32, a: u32, b: u32) -> bool
+    ensures { λ r. ⌜ r ≡ closedIn (now (runs .entry)) (literalOf kind a b) ⌝ }
 {
-    match literal {
-        Literal::Null => true,
-        Literal::False => true,
-        Literal::True => true,
-        Literal::Natural(_) => true,
-        Literal::Negative(_) => true,
-        Literal::Float(_) => true,
-        Literal::String(_) => true,
-        Literal::List(rows) => parts_are_unmarked(marks, rows),
-        Literal::Object(rows) => parts_are_unmarked(marks, rows),
-        Literal::Enum(_) => true,
-        Literal::Variable(_) => false,
-        Literal::Unknown => true,
+    match kind {
+        7 => is_in_run(runs, Range { first: a, count: b }),
+        8 => is_in_run(runs, Range { first: a, count: b }),
+        10 => false,
+        _ => true,
     }
 }
 
-fn row_is_closed(literals: &[u32], marks: &[u8], row: u32) -> bool
-    ensures { λ r. ⌜ r ≡ closedBut (unmarked (now (marks .entry))) (literalAt (now (literals .entry)) row) ⌝ }
+fn row_is_closed(literals: &[u32], runs: &[u16], row: u32) -> bool
+    requires { ⌜ row < rowsOf (now literals) literalWidth ⌝ }
+    ensures { λ r. ⌜ r ≡ closedIn (now (runs .entry)) (literalAt (now (literals .entry)) row) ⌝ }
 {
-    is_closed_but(marks, literal_at(literals, row))
+    let kind = word(literals, LITERAL_WIDTH, row, LITERAL_KIND);
+    let a = word(literals, LITERAL_WIDTH, row, LITERAL_ONE);
+    let b = word(literals, LITERAL_WIDTH, row, LITERAL_TWO);
+    is_closed(runs, kind, a, b)
 }
 
-fn mark_of(closed: bool) -> u8
-    ensures { λ r. ⌜ r ≡ mark closed ⌝ }
+// A closed literal makes the run behind it longer by one; any other ends it.
+fn run_of(closed: bool, behind: u16) -> u16
+    requires { ⌜ behind < 65535 ⌝ }
+    ensures { λ r. ⌜ r ≡ run closed behind ⌝ }
 {
-    if closed { 0 } else { 1 }
+    if closed { behind + 1 } else { 0 }
 }
 
-fn mark_row(literals: &[u32], marks: &mut [u8], row: u32)
-    requires { ⌜ row < length (now marks) ⌝ }
-    ensures { λ _. ⌜ now (marks .exit) ≡ set (now (marks .entry)) row (mark (closedBut (unmarked (now (marks .entry))) (literalAt (now (literals .entry)) row))) ⌝ }
+fn mark_row(literals: &[u32], runs: &mut [u16], row: u32)
+    requires { ⌜ (row < rowsOf (now literals) literalWidth) × (row < mostLiterals) ⌝ }
+    requires { ⌜ Marked (now literals) (now runs) (row + 1) ⌝ }
+    ensures { λ _. ⌜ now (runs .exit) ≡ set (now (runs .entry)) row (run (closedIn (now (runs .entry)) (literalAt (now (literals .entry)) row)) (getD (now (runs .entry)) (row + 1) 0)) ⌝ }
 {
     let at = row as usize;
-    marks[at] = mark_of(row_is_closed(literals, marks, row));
+    let behind = runs[at + 1];
+    runs[at] = run_of(row_is_closed(literals, runs, row), behind);
 }
 
-fn mark_all(literals: &[u32], marks: &mut [u8])
-    requires { ⌜ length (now marks) ≡ mostLiterals ⌝ }
+fn mark_all(literals: &[u32], runs: &mut [u16])
+    requires { ⌜ Marked (now literals) (now runs) (rowsOf (now literals) literalWidth) ⌝ }
     requires { ⌜ Nested (now literals) ⌝ }
-    ensures { λ _. ⌜ Marked (now (literals .entry)) (now (marks .exit)) 0 ⌝ }
+    ensures { λ _. ⌜ Marked (now (literals .entry)) (now (runs .exit)) 0 ⌝ }
 {
     let mut row = row_count(literals, LITERAL_WIDTH);
     while 0 < row {
         row -= 1;
-        mark_row(literals, marks, row);
+        mark_row(literals, runs, row);
     }
 }
 
-fn default_is_unmarked(marks: &[u8], default: Optional) -> bool
-    ensures { λ r. ⌜ r ≡ defaultUnmarked (now (marks .entry)) default ⌝ }
+// Of a default's word: 0 for none, and otherwise one more than the literal's row.
+fn default_is_unmarked(runs: &[u16], default: u32) -> bool
+    ensures { λ r. ⌜ r ≡ defaultUnmarked (now (runs .entry)) (optionOf default) ⌝ }
 {
-    match default {
-        Optional::Absent => true,
-        Optional::Row(row) => is_unmarked(marks, row as usize),
+    if default == 0 {
+        return true;
     }
+    let rows = Range {
+        first: default - 1,
+        count: 1,
+    };
+    is_in_run(runs, rows)
 }
 
-fn field_is_unmarked(fields: &[u32], marks: &[u8], row: u32) -> bool
-    ensures { λ r. ⌜ r ≡ fieldUnmarked (now (fields .entry)) (now (marks .entry)) row ⌝ }
+// The defaults of a table stand in one of its columns.
+fn defaults_are_unmarked(t: &[u32], width: usize, column: usize, runs: &[u16]) -> bool
+    requires { ⌜ (0 < width) × (width ≤ 16) × (column < width) ⌝ }
+    ensures { λ r. ⌜ r ≡ all (rowUnmarked (now (t .entry)) width column (now (runs .entry))) (rowsOf (now (t .entry)) width) ⌝ }
 {
-    let field = field_at(fields, row);
-    let default = field.default;
-    default_is_unmarked(marks, default)
-}
-
-fn argument_is_unmarked(arguments: &[u32], marks: &[u8], row: u32) -> bool
-    ensures { λ r. ⌜ r ≡ argumentUnmarked (now (arguments .entry)) (now (marks .entry)) row ⌝ }
-{
-    let argument = argument_at(arguments, row);
-    let default = argument.default;
-    default_is_unmarked(marks, default)
-}
-
-fn fields_are_unmarked(fields: &[u32], marks: &[u8]) -> bool
-    ensures { λ r. ⌜ r ≡ all (fieldUnmarked (now (fields .entry)) (now (marks .entry))) (rowsOf (now (fields .entry)) fieldWidth) ⌝ }
-{
-    let rows = row_count(fields, FIELD_WIDTH);
+    let rows = row_count(t, width);
     let mut row: u32 = 0;
     while row < rows {
-        if !field_is_unmarked(fields, marks, row) {
-            return false;
-        }
-        row += 1;
-    }
-    true
-}
-
-fn arguments_are_unmarked(arguments: &[u32], marks: &[u8]) -> bool
-    ensures { λ r. ⌜ r ≡ all (argumentUnmarked (now (arguments .entry)) (now (marks .entry))) (rowsOf (now (arguments .entry)) argumentWidth) ⌝ }
-{
-    let rows = row_count(arguments, ARGUMENT_WIDTH);
-    let mut row: u32 = 0;
-    while row < rows {
-        if !argument_is_unmarked(arguments, marks, row) {
+        if !default_is_unmarked(runs, word(t, width, row, column)) {
             return false;
         }
         row += 1;
@@ -156,7 +124,8 @@ pub(crate) fn defaults_are_closed(fields: &[u32], arguments: &[u32], literals: &
     requires { ⌜ Defaulted (now fields) (now arguments) (now literals) ⌝ }
     ensures { λ r. ⌜ r ≡ defaultsClosed (now (fields .entry)) (now (arguments .entry)) (now (literals .entry)) ⌝ }
 {
-    let mut marks = [0u8; MOST_LITERALS];
-    mark_all(literals, &mut marks);
-    fields_are_unmarked(fields, &marks) & arguments_are_unmarked(arguments, &marks)
+    let mut runs = [0u16; MOST_LITERALS + 1];
+    mark_all(literals, &mut runs);
+    defaults_are_unmarked(fields, FIELD_WIDTH, FIELD_DEFAULT, &runs)
+        & defaults_are_unmarked(arguments, ARGUMENT_WIDTH, ARGUMENT_DEFAULT, &runs)
 }

@@ -1,5 +1,5 @@
 // Answers as the programs print them.
-use graphql::outcome::Outcome;
+use codes::outcome::Outcome;
 use introspection::max_depth::DepthAnswer;
 use libc::STDOUT_FILENO;
 

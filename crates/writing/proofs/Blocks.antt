@@ -1,14 +1,11 @@
--- A few bytes of a text: read into an array byte by byte, looked at byte by byte, and named by their places. Assumes nothing.
+-- A few bytes of a text: read into an array byte by byte, and named by their places. Assumes nothing.
 use mathlib.Core.Path.{_≡_, refl, sym, ap, _∙_}
-use mathlib.Core.Bool.{Bool, true, _&&_}
 use mathlib.Core.List.{List, [], _∷_, _++_}
 use Prim.Native.Nat.{ℕ, suc, _+_, _≤_, _<_}
 use native.Mathlib.Omega.{arith}
 use native.Mathlib.Numerals.{add-one}
 use lib.ListN.{length, take, drop, getD, set, length-set, length-drop}
 use lib.Seq.{take-suc, take-suc-set, take-all, drop-cons, getD-drop}
-use Rattle.writing.specs.Escape.{isPlain, allPlain}
-use Rattle.writing.proofs.EscapeLaws.{allPlain-snoc}
 
 -- ---- the first i of n bytes are read
 
@@ -32,19 +29,6 @@ module _ {n : ℕ} {s : List ℕ} {from : ℕ} {block : List ℕ} {i : ℕ} (g :
   read-all h =
       let e : i ≡ n = omega (arith, g .within) in
       sym (take-all i block (omega (arith, g .long))) ∙ g .read ∙ rw e
-
--- ---- the first i bytes are looked at
-
-module _ (block : List ℕ) (plain : Bool) (i : ℕ) (inv : plain ≡ allPlain (take i block)) where
-  pub plain-more : (r : Bool) → r ≡ isPlain (getD block i 0) → i < length block → (plain && r) ≡ allPlain (take (i + 1) block)
-  plain-more r e h = rw (add-one, take-suc block i 0, allPlain-snoc, inv, e)
-
-  pub plain-all : length block ≤ i → plain ≡ allPlain block
-  plain-all h = inv ∙ rw (take-all i block h)
-
-pub plain-none : (block : List ℕ) → true ≡ allPlain (take 0 block)
-unfolding allPlain
-plain-none block = refl
 
 -- ---- by their places
 

@@ -1,5 +1,2 @@
 pub mod Wrote
-pub mod Literal
-pub mod Decimal
-pub mod Escape
 pub mod WritingExamples

@@ -37,7 +37,7 @@ pub fn put_four(text: &mut [u8], at: usize, a: u8, b: u8, c: u8, d: u8) -> usize
 }
 
 // A run of bytes that fits. No turn of the loop asks for room, so the compiler makes it take many bytes in a step.
-pub(crate) fn put_fitting(text: &mut [u8], at: usize, s: &[u8]) -> usize
+pub fn put_fitting(text: &mut [u8], at: usize, s: &[u8]) -> usize
     requires { ⌜ at + length (now s) ≤ length (now text) ⌝ }
     ensures { λ r. ⌜ Writes (now (text .entry)) (now (text .exit)) at r (now (s .entry)) ⌝ }
 {
@@ -63,7 +63,7 @@ fn put_each(text: &mut [u8], at: usize, s: &[u8]) -> usize
 }
 
 // Eight bytes of a run. Read into an array of their own they are known to lie apart from the text, and are written in one step.
-pub(crate) fn eight_at(s: &[u8], from: usize) -> [u8; 8]
+pub fn eight_at(s: &[u8], from: usize) -> [u8; 8]
     requires { ⌜ from + 8 ≤ length (now s) ⌝ }
     ensures { λ r. ⌜ r ≡ take 8 (drop from (now (s .entry))) ⌝ }
 {
@@ -76,30 +76,48 @@ pub(crate) fn eight_at(s: &[u8], from: usize) -> [u8; 8]
     block
 }
 
-// At most sixteen bytes that fit: the first eight and the last eight, or four and four, whatever they have in common.
+// Eight to sixteen bytes that fit: the first eight and the last eight, whatever they have in common.
+fn put_eights(text: &mut [u8], at: usize, s: &[u8]) -> usize
+    requires { ⌜ at + length (now s) ≤ length (now text) ⌝ }
+    requires { ⌜ (8 ≤ length (now s)) × (length (now s) ≤ 16) ⌝ }
+    ensures { λ r. ⌜ Writes (now (text .entry)) (now (text .exit)) at r (now (s .entry)) ⌝ }
+{
+    let rest = s.len() - 8;
+    let first = eight_at(s, 0);
+    let last = eight_at(s, rest);
+    put_fitting(text, at, &first);
+    put_fitting(text, at + rest, &last)
+}
+
+// Four to eight bytes that fit: the first four and the last four.
+fn put_fours(text: &mut [u8], at: usize, s: &[u8]) -> usize
+    requires { ⌜ at + length (now s) ≤ length (now text) ⌝ }
+    requires { ⌜ (4 ≤ length (now s)) × (length (now s) ≤ 8) ⌝ }
+    ensures { λ r. ⌜ Writes (now (text .entry)) (now (text .exit)) at r (now (s .entry)) ⌝ }
+{
+    let rest = s.len() - 4;
+    put_four(text, at, s[0], s[1], s[2], s[3]);
+    put_four(
+        text,
+        at + rest,
+        s[rest],
+        s[rest + 1],
+        s[rest + 2],
+        s[rest + 3],
+    )
+}
+
+// At most sixteen bytes that fit. Its two ways are functions of their own because a proof's time grows faster than its function.
 fn put_few(text: &mut [u8], at: usize, s: &[u8]) -> usize
     requires { ⌜ at + length (now s) ≤ length (now text) ⌝ }
     requires { ⌜ length (now s) ≤ 16 ⌝ }
     ensures { λ r. ⌜ Writes (now (text .entry)) (now (text .exit)) at r (now (s .entry)) ⌝ }
 {
     if 8 <= s.len() {
-        let rest = s.len() - 8;
-        let first = eight_at(s, 0);
-        let last = eight_at(s, rest);
-        put_fitting(text, at, &first);
-        return put_fitting(text, at + rest, &last);
+        return put_eights(text, at, s);
     }
     if 4 <= s.len() {
-        let rest = s.len() - 4;
-        put_four(text, at, s[0], s[1], s[2], s[3]);
-        return put_four(
-            text,
-            at + rest,
-            s[rest],
-            s[rest + 1],
-            s[rest + 2],
-            s[rest + 3],
-        );
+        return put_fours(text, at, s);
     }
     put_each(text, at, s)
 }

@@ -2,7 +2,9 @@
 use Prim.Native.Nat.{_+_, _*_, _-_}
 use native.Mathlib.Omega.{arith}
 use borrow.Author.Needs.{needs}
-use Rattle.introspection.proofs.Walk.{Going, field-deep, walking}
+use Rattle.introspection.proofs.Walk.{Going, walk-on, child-none, child-checked, field-same, field-deep, field-raised, a-field, a-spread, an-inline, an-unknown}
+use Rattle.introspection.proofs.Walk.{mark-there, mark-kept, spread-undefined, again-deep, again-level, spread-stopped, spread-met}
+use Rattle.introspection.proofs.Walk.{set-full, set-begin, going-again, set-stopped, set-ended}
 use Prim.Native.Nat.{ℕ, _<_}
 use borrow.Fn.Kinds.{In}
 use borrow.Fn.PlainCycle.{Measures, is, falls, and}
@@ -35,7 +37,15 @@ use Rattle.introspection.proofs.max_depth.+check_child_set+check_field+
   close,
 }
 
-ruleset walk = (walking, needs)
+ruleset childs = (child-none, child-checked, needs)
+
+ruleset fields = (walk-on, field-same, field-raised, needs)
+
+ruleset selected = (a-field, a-spread, an-inline, an-unknown, needs)
+
+ruleset sets = (walk-on, set-full, set-begin, going-again, set-stopped, set-ended, needs)
+
+ruleset spreads = (mark-there, mark-kept, spread-undefined, again-deep, again-level, spread-stopped, spread-met, needs)
 
 abbrev μ-check-child-set : Measures 4 check-child-set-kinds.ps ℕ
 μ-check-child-set κs a = a .1 .1 .1 .1 .0 * 4 + 1
@@ -141,10 +151,7 @@ pub +check-child-set+check-field+check-selection+check-selection-set+check-sprea
     (check-selection-set-below t, check-selection-set.Post)
     (check-child-set-at t)
     check-child-set.Post
-    (λ c. search walk)
-    (λ c κs. search walk)
-    (λ c. search walk)
-    (λ c. search walk))
+    (λ c. search childs) (λ c κs. search childs) (λ c. search childs) (λ c. search childs))
     (λ t. check-field-lts.spec (
       is-list-reads.Asked,
       is-list-reads.Learnt,
@@ -153,15 +160,9 @@ pub +check-child-set+check-field+check-selection+check-selection-set+check-sprea
     )
     (check-field-at t)
     check-field.Post
-    (λ c κs. search walk)
-    (λ c κs. search walk)
-    (λ c. search walk)
-    (λ c. search walk)
-    (λ c. search walk)
+    (λ c κs. search fields) (λ c κs. search fields) (λ c. search fields) (λ c. search fields) (λ c. search fields)
     (λ c. field-deep _ _ _ _ _ _ _ (c .before .before .is-list .ensures) (c .before .if1 .left) (omega arith))
-    (λ c κs. search walk)
-    (λ c. search walk)
-    (λ c. search walk))
+    (λ c κs. search fields) (λ c. search fields) (λ c. search fields))
     (λ t. check-selection-lts.spec (
       selection-at-reads.Asked,
       selection-at-reads.Learnt,
@@ -174,21 +175,9 @@ pub +check-child-set+check-field+check-selection+check-selection-set+check-sprea
     )
     (check-selection-at t)
     check-selection.Post
-    (λ c κs. search walk)
-    (λ c. search walk)
-    (λ c κs. search walk)
-    (λ c. search walk)
-    (λ c κs. search walk)
-    (λ c. search walk)
-    (λ c κs. search walk)
-    (λ c. search walk)
-    (λ c. search walk)
-    (λ c. search walk)
-    (λ c. search walk)
-    (λ c. search walk)
-    (λ c. search walk)
-    (λ c. search walk)
-    (λ c. search walk))
+    (λ c κs. search selected) (λ c. search selected) (λ c κs. search selected) (λ c. search selected) (λ c κs. search selected)
+    (λ c. search selected) (λ c κs. search selected) (λ c. search selected) (λ c. search selected) (λ c. search selected)
+    (λ c. search selected) (λ c. search selected) (λ c. search selected) (λ c. search selected) (λ c. search selected))
     (λ t. check-selection-set-lts.spec (
       set-at-reads.Asked,
       set-at-reads.Learnt,
@@ -201,21 +190,9 @@ pub +check-child-set+check-field+check-selection+check-selection-set+check-sprea
     check-selection-set.Post
     check-selection-set-Inv-loop
     check-selection-set-μ-loop
-    (λ c. search walk)
-    (λ c κs. search walk)
-    (λ c. search walk)
-    (λ c. search walk)
-    (λ c. search walk)
-    (λ c κs. search walk)
-    (λ c. search walk)
-    (λ c. search walk)
-    (λ c. search walk)
-    (λ c κs. search walk)
-    (λ c. search walk)
-    (λ c. search walk)
-    (λ c. search walk)
-    (λ c. search walk)
-    (λ c. search walk))
+    (λ c. search sets) (λ c κs. search sets) (λ c. search sets) (λ c. search sets) (λ c. search sets) (λ c κs. search sets)
+    (λ c. search sets) (λ c. search sets) (λ c. search sets) (λ c κs. search sets) (λ c. search sets) (λ c. search sets)
+    (λ c. search sets) (λ c. search sets) (λ c. search sets))
     λ t. check-spread-lts.spec (
       fragment-named-reads.Asked,
       fragment-named-reads.Learnt,
@@ -228,27 +205,7 @@ pub +check-child-set+check-field+check-selection+check-selection-set+check-sprea
     )
     (check-spread-at t)
     check-spread.Post
-    (λ c κs. search walk)
-    (λ c. search walk)
-    (λ c. search walk)
-    (λ c. search walk)
-    (λ c. search walk)
-    (λ c. search walk)
-    (λ c. search walk)
-    (λ c. search walk)
-    (λ c. search walk)
-    (λ c. search walk)
-    (λ c. search walk)
-    (λ c. search walk)
-    (λ c κs. search walk)
-    (λ c κs. search walk)
-    (λ c. search walk)
-    (λ c. search walk)
-    (λ c. search walk)
-    (λ c κs. search walk)
-    (λ c. search walk)
-    (λ c. search walk)
-    (λ c. search walk)
-    (λ c. search walk)
-    (λ c. search walk)
-    (λ c. search walk)
+    (λ c κs. search spreads) (λ c. search spreads) (λ c. search spreads) (λ c. search spreads) (λ c. search spreads) (λ c. search spreads)
+    (λ c. search spreads) (λ c. search spreads) (λ c. search spreads) (λ c. search spreads) (λ c. search spreads) (λ c. search spreads)
+    (λ c κs. search spreads) (λ c κs. search spreads) (λ c. search spreads) (λ c. search spreads) (λ c. search spreads) (λ c κs. search spreads)
+    (λ c. search spreads) (λ c. search spreads) (λ c. search spreads) (λ c. search spreads) (λ c. search spreads) (λ c. search spreads)

@@ -5,7 +5,7 @@ use Rattle.rules.proofs.json.literal_row.Tie as tie
 
 returns : tie.Need-returns
 unfolding literalAt
-returns c = cc
+returns c = let p = c .before .before .before in rw (c .literal-key .ensures, c .before .literal-is-lawful .ensures, c .before .before .cell3 .ensures, p .cell2 .ensures, p .before .cell .ensures)
 
 pub literal-row-spec : {M : Type 1} → statement M
 literal-row-spec =

@@ -7,8 +7,10 @@ use Rattle.tables.proofs.check.rows_are_lawful.Tie as tie
 
 returns : tie.Need-returns
 returns c =
-    stop-sizes _ (c .before .before .before .schema-is-sized .result) (c .before .before .document-is-sized .result) (c .before .values-are-sized .result)
-    (c .before .before .before .schema-is-sized .ensures) (c .before .before .document-is-sized .ensures) (c .before .values-are-sized .ensures) (c .if1 .taken)
+    let s = c .before .before .before .schema-is-sized in
+    let d = c .before .before .document-is-sized in
+    let v = c .before .values-are-sized in
+    stop-sizes _ (s .result) (d .result) (v .result) (s .ensures) (d .ensures) (v .ensures) (c .if1 .taken)
 
 schema-is-lawful-requires : tie.Need-schema-is-lawful-requires
 schema-is-lawful-requires c κs =
@@ -22,22 +24,33 @@ returns-2 c =
 
 document-is-lawful-requires : tie.Need-document-is-lawful-requires
 document-is-lawful-requires c κs =
-    sized-selections _ (c .before .before .before .before .before .before .before .before .schema-is-sized .result) (c .before .before .before .before .before .before .before .document-is-sized .result)
-    (c .before .before .before .before .before .before .values-are-sized .result) _ _ (c .before .before .before .before .before .before .before .document-is-sized .ensures) (c .before .before .before .before .before .if1 .left)
+    let left = c .before .before .before .before .before in
+    let sized = left .before in
+    let d = sized .before .document-is-sized in
+    sized-selections _ (sized .before .before .schema-is-sized .result) (d .result) (sized .values-are-sized .result) _ _ (d .ensures) (left .if1 .left)
 
 returns-3 : tie.Need-returns-3
 returns-3 c =
-    stop-document _ (c .before .document-is-lawful .result)
-    (rw (c .before .before .before .before .before .before .row-count .ensures, c .before .before .before .before .before .row-count2 .ensures, c .before .before .before .before .row-count3 .ensures) at (c .before .document-is-lawful .ensures)) (c .if3 .taken)
+    let counted = c .before .before .before .before in
+    let document = c .before .document-is-lawful in
+    stop-document _ (document .result)
+    (rw (counted .before .before .row-count .ensures, counted .before .row-count2 .ensures, counted .row-count3 .ensures) at (document .ensures)) (c .if3 .taken)
 
 returns-4 : tie.Need-returns-4
 returns-4 c =
-    go-values _ (c .before .before .before .before .before .before .before .before .before .before .before .schema-is-sized .result) (c .before .before .before .before .before .before .before .before .before .before .document-is-sized .result) (c .before .before .before .before .before .before .before .before .before .values-are-sized .result)
-    (c .before .before .before .before .schema-is-lawful .result) (c .before .before .document-is-lawful .result) (c .values-are-lawful .result)
-    (c .before .before .before .before .before .before .before .before .before .before .before .schema-is-sized .ensures) (c .before .before .before .before .before .before .before .before .before .before .document-is-sized .ensures) (c .before .before .before .before .before .before .before .before .before .values-are-sized .ensures) (c .before .before .before .before .before .before .before .before .if1 .left)
-    (rw (c .before .before .before .before .before .row-count3 .ensures) at (c .before .before .before .before .schema-is-lawful .ensures)) (c .before .before .before .if2 .left)
-    (rw (c .before .before .before .before .before .before .before .row-count .ensures, c .before .before .before .before .before .before .row-count2 .ensures, c .before .before .before .before .before .row-count3 .ensures) at (c .before .before .document-is-lawful .ensures)) (c .before .if3 .left)
-    (rw (c .before .before .before .before .before .before .before .row-count .ensures) at (c .values-are-lawful .ensures))
+    let document = c .before .before .document-is-lawful in
+    let schema = c .before .before .before .before .schema-is-lawful in
+    let counted = c .before .before .before .before .before in
+    let names = counted .before .before .row-count .ensures in
+    let left = counted .before .before .before in
+    let v = left .before .values-are-sized in
+    let d = left .before .before .document-is-sized in
+    let s = left .before .before .before .schema-is-sized in
+    go-values _ (s .result) (d .result) (v .result) (schema .result) (document .result) (c .values-are-lawful .result)
+    (s .ensures) (d .ensures) (v .ensures) (left .if1 .left)
+    (rw (counted .row-count3 .ensures) at (schema .ensures)) (c .before .before .before .if2 .left)
+    (rw (names, counted .before .row-count2 .ensures, counted .row-count3 .ensures) at (document .ensures)) (c .before .if3 .left)
+    (rw names at (c .values-are-lawful .ensures))
 
 pub rows-are-lawful-spec : {M : Type 1} → statement M
 rows-are-lawful-spec =

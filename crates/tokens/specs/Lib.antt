@@ -1,0 +1,4 @@
+pub mod Literal
+pub mod Decimal
+pub mod Escape
+pub mod TokenExamples
