@@ -6,7 +6,7 @@ use Prim.Native.Nat.{ℕ}
 use native.Mathlib.Omega.{arith}
 use lib.ListN.{length}
 use Rattle.writing.specs.Wrote.{Writes}
-use Rattle.graphql.specs.Outcome.{tooFar}
+use Rattle.codes.specs.Outcome.{tooFar}
 use Rattle.graphql.specs.Run.{Choices, M, stop, done, pure, halt}
 use Rattle.graphql.specs.Json.{Json, print}
 use Rattle.values.specs.Put.{ended, Ends, Puts}

@@ -2,9 +2,13 @@ pub mod Closing
 pub mod Determined
 pub mod Ends
 pub mod Going
+pub mod Insides
 pub mod Labels
 pub mod Lawful
+pub mod LiteralEnds
+pub mod Literals
 pub mod Nodes
 pub mod Parts
+pub mod Room
 pub mod Sorted
 pub mod Walk

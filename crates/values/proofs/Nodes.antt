@@ -12,9 +12,9 @@ use Rattle.rows.specs.declared.layout.Range.{Range}
 use Rattle.rows.specs.declared.json.Node.{Node}
 use Rattle.rows.specs.declared.json.Node.the-variants as node
 use Rattle.rows.proofs.json.Node.{the-type}
-use Rattle.writing.specs.Literal.{nullName, trueName, falseName}
-use Rattle.writing.specs.Decimal.{decimal}
-use Rattle.writing.specs.Escape.{quoted}
+use Rattle.tokens.specs.Literal.{nullName, trueName, falseName}
+use Rattle.tokens.specs.Decimal.{decimal}
+use Rattle.tokens.specs.Escape.{quoted}
 use Rattle.writing.specs.Wrote.{Writes}
 use Rattle.graphql.specs.Json.{null, print}
 use Rattle.values.specs.Plain.{plainValue}

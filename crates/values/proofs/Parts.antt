@@ -4,11 +4,9 @@ use mathlib.Core.Bool.{Bool, true, false}
 use mathlib.Core.List.{List, [], _∷_, _++_, map, append-assoc, append-nil}
 use mathlib.Core.Option.{some}
 use Prim.Native.Nat.{ℕ, zero, suc}
-use Rattle.rows.specs.Strings.{textOf}
-use Rattle.rows.specs.Json.{nodeKey}
-use Rattle.writing.specs.Escape.{quoted}
+use Rattle.tokens.specs.Escape.{quoted}
 use Rattle.writing.specs.Wrote.{bracketed}
-use Rattle.graphql.specs.Outcome.{tooFar}
+use Rattle.codes.specs.Outcome.{tooFar}
 use Rattle.graphql.specs.Run.{M, Res, Choices, stop, failed, done, pure, halt, after, onward, inOrder, _>>=_}
 use Rattle.graphql.specs.Json.{Json, array, object, items, members, print, printItems, printMembers}
 use Rattle.graphql.specs.Values.{opened, arrayOf, objectOf}
@@ -39,16 +37,13 @@ module _ (inside : ℕ → M Json) (row : ℕ) (rows : List ℕ) (js : List Json
       go (failed r w d) = refl
       go (done vs w d) = rw (append-nil w, append-assoc js (j ∷ []) vs)
 
-  pub onto-too-far : inside row c ≡ stop tooFar [] → onto js (inOrder inside (row ∷ rows) c) ≡ stop tooFar []
+  pub onto-stop : {s : ℕ} → inside row c ≡ stop s [] → onto js (inOrder inside (row ∷ rows) c) ≡ stop s []
   unfolding onto inOrder _>>=_ onward
-  onto-too-far e = rw e
+  onto-stop e = rw e
 
 -- ---- the text of the parts, and the container that they make
 
-module _ (pool nodes : List ℕ) where
-  abbrev key : ℕ → List ℕ
-  key row = textOf pool (nodeKey nodes row)
-
+module _ (key : ℕ → List ℕ) where
   unfoldable pub partsText : (keyed : Bool) → List ℕ → List Json → List ℕ
   partsText false rows js = printItems (items js)
   partsText true rows js = printMembers (members (map key rows) (map some js))
@@ -63,7 +58,7 @@ module _ (pool nodes : List ℕ) where
   parts-none true = refl
 
   pub parts-more : (keyed : Bool) (row : ℕ) (rows : List ℕ) (j : Json) (js : List Json)
-      → partsText keyed (row ∷ rows) (j ∷ js) ≡ label pool nodes keyed row ++ (print j ++ partsText keyed rows js)
+      → partsText keyed (row ∷ rows) (j ∷ js) ≡ label keyed (key row) ++ (print j ++ partsText keyed rows js)
   unfolding partsText label printItems printMembers items members
   parts-more false row rows j js = refl
   parts-more true row rows j js = rw (append-assoc (quoted (key row)) (58 ∷ []) (print j ++ printMembers (members (map key rows) (map some js))))
@@ -77,24 +72,24 @@ module _ (pool nodes : List ℕ) where
   -- a container that may be opened is made of its parts
   module _ (room : ℕ) (inside : ℕ → M Json) (keyed : Bool) (rows : List ℕ) (c : Choices) where
     pub container-made : (js : List Json) → inOrder inside rows c ≡ done js [] c
-        → containerOf pool nodes (suc room) inside keyed rows c ≡ done (made keyed rows js) [] c
+        → containerOf key (suc room) inside keyed rows c ≡ done (made keyed rows js) [] c
     unfolding containerOf arrayOf objectOf opened _>>=_ onward after pure made
     container-made js e = go keyed
       where
-        go : (k : Bool) → containerOf pool nodes (suc room) inside k rows c ≡ done (made k rows js) [] c
+        go : (k : Bool) → containerOf key (suc room) inside k rows c ≡ done (made k rows js) [] c
         go false = rw e
         go true = rw e
 
-    pub container-too-far : inOrder inside rows c ≡ stop tooFar [] → containerOf pool nodes (suc room) inside keyed rows c ≡ stop tooFar []
+    pub container-stop : {s : ℕ} → inOrder inside rows c ≡ stop s [] → containerOf key (suc room) inside keyed rows c ≡ stop s []
     unfolding containerOf arrayOf objectOf opened _>>=_ onward
-    container-too-far e = go keyed
+    container-stop {s} e = go keyed
       where
-        go : (k : Bool) → containerOf pool nodes (suc room) inside k rows c ≡ stop tooFar []
+        go : (k : Bool) → containerOf key (suc room) inside k rows c ≡ stop s []
         go false = rw e
         go true = rw e
 
   pub container-full : (inside : ℕ → M Json) (keyed : Bool) (rows : List ℕ) (c : Choices)
-      → containerOf pool nodes zero inside keyed rows c ≡ stop tooFar []
+      → containerOf key zero inside keyed rows c ≡ stop tooFar []
   unfolding containerOf arrayOf objectOf opened halt
   container-full inside false rows c = refl
   container-full inside true rows c = refl

@@ -1,4 +1,4 @@
--- The sort of a node is the sort of its value: a value that is there is the variant's own, with whatever parts. Assumes nothing.
+-- The sort of a node, or of a literal, is the sort of its value: a value that is there is the variant's own, with whatever parts. Assumes nothing.
 use mathlib.Core.Path.{_≡_, refl, sym}
 use mathlib.Core.Bool.{true, false}
 use mathlib.Core.List.{List, map}
@@ -6,15 +6,20 @@ use mathlib.Core.Option.{some}
 use Prim.Native.Nat.{ℕ, zero, suc, _+_, _*_}
 use native.Mathlib.Omega.{arith}
 use Rattle.rows.specs.Strings.{textOf}
-use Rattle.rows.specs.Json.{nodeAt, nodeKey}
+use Rattle.rows.specs.Names.{nameText}
+use Rattle.rows.specs.Json.{nodeAt, nodeKey, literalAt, literalKey}
 use Rattle.rows.specs.declared.json.Node.{Node}
 use Rattle.rows.specs.declared.json.Node.the-variants as node
+use Rattle.rows.specs.declared.json.Literal.{Literal}
+use Rattle.rows.specs.declared.json.Literal.the-variants as literal
 use Rattle.graphql.specs.Run.{Log, Choices, M, Res, stop, failed, done, pure, halt, after, onward, inOrder, _>>=_}
 use Rattle.graphql.specs.Json.{Json, sortOf}
 use Rattle.graphql.specs.Json as json
 use Rattle.graphql.specs.Lookup.{rowsIn}
-use Rattle.graphql.specs.Values.{opened, arrayOf, objectOf, valueOf, nodeValue}
+use Rattle.graphql.specs.Values.{opened, arrayOf, objectOf, valueOf, nodeValue, partsOf, partByPart}
 use Rattle.values.specs.Plain.{nodeSort, NodeSorted}
+use Rattle.values.specs.Literals.{literalSort, LiteralSorted}
+use Rattle.values.proofs.Insides.{insides, node-is, literal-is}
 
 module _ (j : Json) (log : Log) (c c' : Choices) where
   plainly : (v : Json) → pure v c ≡ done j log c' → sortOf v ≡ sortOf j
@@ -50,7 +55,30 @@ module _ (j : Json) (log : Log) (c c' : Choices) where
         (λ js. refl) e
     by-variant node.Unknown e = plainly json.null e
 
+  module _ (pool names literals : List ℕ) (room : ℕ) (inside : ℕ → M Json) where
+    by-literal : (l : Literal) → partsOf pool names literals room inside l c ≡ done j log c' → literalSort l ≡ sortOf j
+    unfolding partsOf arrayOf objectOf halt sortOf
+    by-literal literal.Null e = plainly json.null e
+    by-literal literal.False e = plainly (json.bool false) e
+    by-literal literal.True e = plainly (json.bool true) e
+    by-literal (literal.Natural n) e = plainly (json.natural n) e
+    by-literal (literal.Negative m) e = plainly (json.negative m) e
+    by-literal (literal.Float text) e = plainly (json.float (textOf pool text)) e
+    by-literal (literal.String text) e = plainly (json.string (textOf pool text)) e
+    by-literal (literal.List rows) e = together room (inOrder inside (rowsIn rows)) (λ js. json.array (json.items js)) (λ js. refl) e
+    by-literal (literal.Object rows) e =
+        together room (inOrder inside (rowsIn rows))
+        (λ js. json.object (json.members (map (λ row. nameText pool names (literalKey literals row)) (rowsIn rows)) (map some js)))
+        (λ js. refl) e
+    by-literal (literal.Enum name) e = plainly (json.string (nameText pool names name)) e
+    by-literal (literal.Variable name) e = absurd (let z : _≡_ {A = ℕ} 0 1 = cc in omega arith)
+    by-literal literal.Unknown e = plainly json.null e
+
 pub nodeSorted : NodeSorted
-unfolding nodeValue
-nodeSorted pool nodes zero row j log c c' e = by-variant j log c c' pool nodes zero _ (nodeAt nodes row) e
-nodeSorted pool nodes (suc room) row j log c c' e = by-variant j log c c' pool nodes (suc room) _ (nodeAt nodes row) e
+nodeSorted pool nodes room row j log c c' e =
+    by-variant j log c c' pool nodes room (insides (nodeValue pool nodes) room) (nodeAt nodes row) (rw (node-is pool nodes room row) at e)
+
+pub literalSorted : LiteralSorted
+literalSorted pool names literals room row j log c c' e =
+    by-literal j log c c' pool names literals room (insides (partByPart pool names literals) room) (literalAt literals row)
+    (rw (literal-is pool names literals room row) at e)

@@ -1,2 +1,4 @@
+pub mod Literals
 pub mod Plain
 pub mod Put
+pub mod Room

@@ -10,9 +10,9 @@ use Rattle.rows.specs.Strings.{textOf}
 use Rattle.rows.specs.Json.{nodeAt, nodeKey}
 use Rattle.rows.specs.declared.json.Node.{Node}
 use Rattle.rows.specs.declared.json.Node.the-variants as node
-use Rattle.writing.specs.Escape.{quoted}
+use Rattle.tokens.specs.Escape.{quoted}
 use Rattle.writing.specs.Wrote.{Writes}
-use Rattle.graphql.specs.Outcome.{tooFar}
+use Rattle.codes.specs.Outcome.{tooFar}
 use Rattle.graphql.specs.Run.{Choices, M, pure, halt}
 use Rattle.graphql.specs.Json.{Json, print}
 use Rattle.graphql.specs.Lookup.{rowsIn}
@@ -43,10 +43,10 @@ pub record Parted (nodes : List ℕ) : Type 0 where
 
 -- ---- The text around the parts. The bytes: comma 44, colon 58, [ 91, ] 93, { 123, } 125.
 
--- what stands before the value of a part
-unfoldable pub label : (pool nodes : List ℕ) (keyed : Bool) (row : ℕ) → List ℕ
-label pool nodes false row = 44 ∷ []
-label pool nodes true row = 44 ∷ (quoted (textOf pool (nodeKey nodes row)) ++ (58 ∷ []))
+-- what stands before the value of a part that has this key, if it has one
+unfoldable pub label : (keyed : Bool) (key : List ℕ) → List ℕ
+label false key = 44 ∷ []
+label true key = 44 ∷ (quoted key ++ (58 ∷ []))
 
 abbrev pub left : Bool → ℕ
 left false = 91
@@ -84,15 +84,19 @@ pub record Puts (m : M Json) (before : List ℕ) (at : ℕ) (r : Put) (after : L
   pub is : (c : Choices) → m c ≡ ended value c
   pub put : Ends value before at r after
 
+-- a container's value, by the kind of its parts, as the definition of a value has it
+unfoldable pub containerOf : (key : ℕ → List ℕ) (room : ℕ) → (ℕ → M Json) → (keyed : Bool) → List ℕ → M Json
+containerOf key room inside false rows = arrayOf room inside rows
+containerOf key room inside true rows = objectOf room inside key rows
+
 module _ (pool nodes : List ℕ) where
-  -- a container's value, by the kind of its parts, as the definition of a node's value has it
-  unfoldable pub containerOf : (room : ℕ) → (ℕ → M Json) → (keyed : Bool) → List ℕ → M Json
-  containerOf room inside false rows = arrayOf room inside rows
-  containerOf room inside true rows = objectOf room inside (λ row. textOf pool (nodeKey nodes row)) rows
+  -- the bytes of a part's key
+  abbrev pub keyText : ℕ → List ℕ
+  keyText row = textOf pool (nodeKey nodes row)
 
   unfoldable pub containerValue : (room : ℕ) → Parts → M Json
-  containerValue zero parts = containerOf zero (λ part. halt tooFar) (parts .keyed) (rowsIn (parts .rows))
-  containerValue (suc room) parts = containerOf (suc room) (λ part. nodeValue pool nodes room part) (parts .keyed) (rowsIn (parts .rows))
+  containerValue zero parts = containerOf keyText zero (λ part. halt tooFar) (parts .keyed) (rowsIn (parts .rows))
+  containerValue (suc room) parts = containerOf keyText (suc room) (λ part. nodeValue pool nodes room part) (parts .keyed) (rowsIn (parts .rows))
 
   abbrev pub PutsContainer : (room : ℕ) → Parts → (before : List ℕ) (at : ℕ) (r : Put) (after : List ℕ) → Type 0
   PutsContainer room parts before at r after = Puts (containerValue room parts) before at r after

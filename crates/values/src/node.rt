@@ -3,14 +3,14 @@ ghost use mathlib.Core.Path.{_≡_};
 ghost use Prim.Native.Nat.{_+_, _≤_};
 ghost use Rattle.rows.specs.Limits.{mostNodes};
 ghost use Rattle.writing.specs.Wrote.{Writes, Closes};
-ghost use Rattle.values.specs.Put.{shapeOf, label, left, right, Parted, PutsContainer, PutsNode};
+ghost use Rattle.values.specs.Put.{shapeOf, label, keyText, left, right, Parted, PutsContainer, PutsNode};
 use crate::plain::put_plain;
 use rows::json::Node;
 use rows::json::node_at;
 use rows::json::node_key;
 use rows::layout::Range;
 use rows::strings::text_of;
-use writing::json::put_string;
+use tokens::json::put_string;
 use writing::place::close;
 use writing::write::put;
 
@@ -49,7 +49,7 @@ fn shape_of(node: Node) -> Shape
 
 // What stands before the value of a part: a comma; in an object its key and a colon too.
 fn put_label(pool: &[u8], nodes: &[u32], text: &mut [u8], at: usize, keyed: bool, row: u32) -> usize
-    ensures { λ r. ⌜ Writes (now (text .entry)) (now (text .exit)) at r (label (now (pool .entry)) (now (nodes .entry)) keyed row) ⌝ }
+    ensures { λ r. ⌜ Writes (now (text .entry)) (now (text .exit)) at r (label keyed (keyText (now (pool .entry)) (now (nodes .entry)) row)) ⌝ }
 {
     let next = put(text, at, b',');
     if keyed {
@@ -60,7 +60,7 @@ fn put_label(pool: &[u8], nodes: &[u32], text: &mut [u8], at: usize, keyed: bool
 }
 
 // The parts that were written from `start` to `at`, each with its label, get their brackets.
-fn put_brackets(text: &mut [u8], start: usize, at: usize, keyed: bool) -> usize
+pub fn put_brackets(text: &mut [u8], start: usize, at: usize, keyed: bool) -> usize
     ensures { λ r. ⌜ Closes (left keyed) (right keyed) (now (text .entry)) start at (now (text .exit)) r ⌝ }
 {
     if keyed {

@@ -6,12 +6,12 @@ ghost use Rattle.graphql.specs.Json.{print};
 ghost use Rattle.values.specs.Plain.{plainValue};
 use rows::json::Node;
 use rows::strings::text_of;
-use writing::json::put_false;
-use writing::json::put_natural;
-use writing::json::put_negative;
-use writing::json::put_null;
-use writing::json::put_string;
-use writing::json::put_true;
+use tokens::json::put_false;
+use tokens::json::put_natural;
+use tokens::json::put_negative;
+use tokens::json::put_null;
+use tokens::json::put_string;
+use tokens::json::put_true;
 use writing::write::put_all;
 
 // An integer of two words, the low half first.

@@ -1,10 +1,13 @@
-// The sort of a node's value, which the rules on leaves tell apart.
+// The sort of a node's or a literal's value, which the rules on leaves tell apart.
 ghost use mathlib.Core.Path.{_≡_};
-ghost use Rattle.rows.specs.Json.{nodeAt};
+ghost use Rattle.rows.specs.Json.{nodeAt, literalAt};
 ghost use Rattle.graphql.specs.Json.{natural, negative, sortOf};
 ghost use Rattle.values.specs.Plain.{said, nodeSort};
+ghost use Rattle.values.specs.Literals.{literalSort};
 use crate::plain::integer;
+use rows::json::Literal;
 use rows::json::Node;
+use rows::json::literal_at;
 use rows::json::node_at;
 
 // An integer that fits 32 bits, signed, is an int; another that fits 64 bits, signed, a long; and a larger one is huge.
@@ -67,4 +70,29 @@ pub fn sort_of(nodes: &[u32], row: u32) -> Sort
     ensures { λ r. ⌜ r ≡ said (nodeSort (nodeAt (now (nodes .entry)) row)) ⌝ }
 {
     sort_of_node(node_at(nodes, row))
+}
+
+pub fn sort_of_literal(literal: Literal) -> Sort
+    ensures { λ r. ⌜ r ≡ said (literalSort literal) ⌝ }
+{
+    match literal {
+        Literal::Null => Sort::Null,
+        Literal::False => Sort::Boolean,
+        Literal::True => Sort::Boolean,
+        Literal::Natural(n) => sort_of_natural(n as u64),
+        Literal::Negative(n) => sort_of_negative(n as u64),
+        Literal::Float(_) => Sort::Float,
+        Literal::String(_) => Sort::String,
+        Literal::List(_) => Sort::Container,
+        Literal::Object(_) => Sort::Container,
+        Literal::Enum(_) => Sort::String,
+        Literal::Variable(_) => Sort::Null,
+        Literal::Unknown => Sort::Null,
+    }
+}
+
+pub fn literal_sort(literals: &[u32], row: u32) -> Sort
+    ensures { λ r. ⌜ r ≡ said (literalSort (literalAt (now (literals .entry)) row)) ⌝ }
+{
+    sort_of_literal(literal_at(literals, row))
 }

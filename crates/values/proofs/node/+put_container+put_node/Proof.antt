@@ -4,6 +4,7 @@ use borrow.Fn.Kinds.{In}
 use borrow.Fn.PlainCycle.{Measures, is, falls, and}
 use borrow.Author.Needs.{needs}
 use Rattle.graphql.specs.Values.{nodeValue}
+use Rattle.values.specs.Put.{keyText}
 use Rattle.values.proofs.Going.{Going}
 use Rattle.values.proofs.Walk.{walking}
 use Rattle.values.proofs.node.put_container.Reads as put-container
@@ -44,7 +45,7 @@ put-node-below t = and 3 put-node-kinds.ps (falls 3 put-node-kinds.ps _<_ μ-put
 
 abbrev put-container-Inv-loop : put-container-lts.InvT-loop
 put-container-Inv-loop pool nodes text₀ at room keyed first count next₀ i₀ text next i =
-    Going pool nodes (nodeValue pool nodes (room - 1)) keyed first count text₀ at text next i
+    Going (keyText pool nodes) (nodeValue pool nodes (room - 1)) keyed first count text₀ at text next i
 
 abbrev put-container-μ-loop : put-container-lts.MeasureT-loop
 put-container-μ-loop pool nodes text₀ at room keyed first count next₀ i₀ text next i = count - i

@@ -1,0 +1,2 @@
+pub mod Collecting
+pub mod Visited

@@ -1,0 +1,5 @@
+pub mod Binds
+pub mod Leaves
+pub mod Request
+pub mod Sorts
+pub mod Types

@@ -1,0 +1,10 @@
+pub mod Arguing
+pub mod Ends
+pub mod Fields
+pub mod Going
+pub mod Keys
+pub mod Lawful
+pub mod Leaves
+pub mod Parts
+pub mod Variables
+pub mod Walk
