@@ -66,7 +66,8 @@ module _ (types : List ℕ) (name : ℕ) {found : Optional} (e : found ≡ rowOf
       unfolding ofKind
       named-object k q = rw (by-kind nullable h read, k) q
 
-      pub named-other : OneOf others (tagOf kinds.the-type (def .kind)) → r ≡ with' false 0 0 → r ≡ expectedNamed types name nullable (typeNamed types name)
+      pub named-other : OneOf others (tagOf kinds.the-type (def .kind)) → r ≡ with' false 0 0 → r
+          ≡ expectedNamed types name nullable (typeNamed types name)
       unfolding ofKind
       named-other o q = rw (by-kind nullable h read) (q ∙ go (def .kind) o)
         where
@@ -150,7 +151,8 @@ pub ruleset defining = (def-typename, def-none, def-some, field-fits, code-fits)
 -- ---- what is expected of a field
 
 module _ (refs types fields : List ℕ) (own ty : ℕ) where
-  pub low-expected : own < 2 → (d : Option Definition) → own ≡ definitionCode d → _≡_ {A = Expected} (record { what = 0; of = 0 }) (expectedOf refs types fields d ty)
+  pub low-expected : own < 2 → (d : Option Definition) → own ≡ definitionCode d
+      → _≡_ {A = Expected} (record { what = 0; of = 0 }) (expectedOf refs types fields d ty)
   unfolding expectedOf definitionCode
   low-expected l none e = refl
   low-expected l (some typename) e = refl
@@ -168,7 +170,8 @@ module _ (refs types fields : List ℕ) (own ty : ℕ) where
         let m : 0 < fieldAt fields f .arguments .count = rw (← t) l in
         rw (lt-ltb 0 (fieldAt fields f .arguments .count) m)
 
-    pub plain-expected : {r : Expected} → def .arguments .count ≤ 0 → r ≡ expectedAt types (typeRefAt refs ty) → (d : Option Definition) → own ≡ definitionCode d
+    pub plain-expected : {r : Expected} → def .arguments .count ≤ 0 → r ≡ expectedAt types (typeRefAt refs ty) → (d : Option Definition) → own
+        ≡ definitionCode d
         → r ≡ expectedOf refs types fields d ty
     unfolding expectedOf definitionCode
     plain-expected l q none e = absurd (omega arith)

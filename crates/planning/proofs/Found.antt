@@ -32,14 +32,18 @@ merge-is Q (row ∷ rest) = rw (merge-is Q rest)
 
 module _ (Q : Request) (object : ℕ) (members : List ℕ) where
   stops-too : (code : ℕ)
-      → ((k : Choices) → rowsDone (Q .tables .types) (Q .tables .members) (Q .tables .sets) (Q .tables .selections) (Q .tables .fragments) (Q .tables .nodes) (Q .tables .variables) mostOpen object (mergeSelectionSets (document (Q .tables .sets) (Q .tables .selections)) members) noneYet k ≡ stop code [])
-      → (k : Choices) → collect (Q .tables .types) (Q .tables .members) (Q .tables .sets) (Q .tables .selections) (Q .tables .fragments) (Q .tables .variables) (Q .tables .nodes) object (mergeSelectionSets Q members) k ≡ stop code []
+      → ((k : Choices) → rowsDone (Q .tables .types) (Q .tables .members) (Q .tables .sets) (Q .tables .selections) (Q .tables .fragments)
+      (Q .tables .nodes) (Q .tables .variables) mostOpen object (mergeSelectionSets (document (Q .tables .sets)
+      (Q .tables .selections)) members) noneYet k ≡ stop code [])
+      → (k : Choices) → collect (Q .tables .types) (Q .tables .members) (Q .tables .sets) (Q .tables .selections) (Q .tables .fragments)
+      (Q .tables .variables) (Q .tables .nodes) object (mergeSelectionSets Q members) k ≡ stop code []
   unfolding collect _>>=_ onward
   stops-too code h k = rw (merge-is Q members, h k)
 
 module _ (Q : Request) {plans : List ℕ} {top : ℕ} (parent group object : ℕ) (a : Standing Q plans top) where
   -- the plan that was found is the one
-  pub found-right : {row : ℕ} {r : Bool} → r ≡ (ltb row top && (eqb (wordAt plans row 0) (32768 + object) && (eqb (wordAt plans row 3) parent && eqb (wordAt plans row 4) group)))
+  pub found-right : {row : ℕ} {r : Bool} → r ≡ (ltb row top && (eqb (wordAt plans row 0) (32768 + object) && (eqb
+      (wordAt plans row 3) parent && eqb (wordAt plans row 4) group)))
       → r ≡ true → Made Q (mergeSelectionSets Q (membersOf plans parent group)) plans top object row top plans
   found-right {row = row'} e t =
       let all = sym e ∙ t in
@@ -57,11 +61,14 @@ module _ (Q : Request) {plans : List ℕ} {top : ℕ} (parent group object : ℕ
       }
 
   module _ {fresh list : List ℕ} {g : Gathered}
-      (w : Plannable (Q .tables .refs) (Q .tables .types) (Q .tables .fields) (Q .tables .sets) (Q .tables .selections) (Q .tables .fragments) plans top parent group object)
+      (w : Plannable (Q .tables .refs) (Q .tables .types) (Q .tables .fields) (Q .tables .sets) (Q .tables .selections)
+      (Q .tables .fragments) plans top parent group object)
       (room : 8 * (top + 256) ≤ length plans)
-      (c : Gathers (Q .tables .types) (Q .tables .members) (Q .tables .sets) (Q .tables .selections) (Q .tables .fragments) (Q .tables .nodes) (Q .tables .variables) object (membersOf plans parent group) fresh (On g) list)
+      (c : Gathers (Q .tables .types) (Q .tables .members) (Q .tables .sets) (Q .tables .selections) (Q .tables .fragments) (Q .tables .nodes)
+      (Q .tables .variables) object (membersOf plans parent group) fresh (On g) list)
       {r : Planned} {plans' : List ℕ}
-      (q : PutPlan (Q .tables .refs) (Q .tables .types) (Q .tables .fields) (Q .tables .selections) list (g .count) top (32768 + object) parent group object plans r plans') where
+      (q : PutPlan (Q .tables .refs) (Q .tables .types) (Q .tables .fields) (Q .tables .selections) list (g .count) top
+      (32768 + object) parent group object plans r plans') where
     abbrev end : ℕ
     end = planEnd plans' top
 
@@ -89,7 +96,8 @@ module _ (Q : Request) {plans : List ℕ} {top : ℕ} (parent group object : ℕ
         z = omega arith
 
         go : (plan : ℕ) → plan < end → 32768 ≤ wordAt plans' plan 0 → Dec (top ≤ plan) → Dec (plan ≤ top) → Head Q plans' end plan
-        go plan l h (no x) y = head-on (q .kept) Q plan end (omega arith) (omega arith) there (a .heads plan (omega arith) (rw (q .kept .same (8 * plan + 0) (omega arith)) at h))
+        go plan l h (no x) y = head-on (q .kept) Q plan end (omega arith) (omega arith) there (a .heads plan (omega arith) (rw (q .kept .same
+            (8 * plan + 0) (omega arith)) at h))
         go plan l h (yes x) (no y) = absurd (let t = q .holds .low plan (omega arith) l in omega arith)
         go plan l h (yes x) (yes y) =
             let e : plan ≡ top = omega arith in
@@ -111,7 +119,8 @@ module _ {refs types members fields sets selections fragments nodes variables pl
   }
 
   pub plans-found : {row : ℕ} {r : Bool}
-      → r ≡ (ltb row top && (eqb (wordAt plans row 0) (32768 + object) && (eqb (wordAt plans row 3) parent && eqb (wordAt plans row 4) group))) → r ≡ true
+      → r ≡ (ltb row top && (eqb (wordAt plans row 0) (32768 + object) && (eqb (wordAt plans row 3) parent && eqb (wordAt plans row 4) group)))
+      → r ≡ true
       → PlansFor refs types members fields sets selections fragments nodes variables plans top parent group object (planned.At row top) plans
   plans-found {row = row'} e t =
       let l = ltb-true row' top (and-left (ltb row' top) _ (sym e ∙ t)) in
@@ -121,7 +130,9 @@ module _ {refs types members fields sets selections fragments nodes variables pl
         comes = λ Q t' a. found-right Q parent group object a e t;
       }
 
-  pub plans-stopped : {fresh list : List ℕ} {r : Collecting} → Gathers types members sets selections fragments nodes variables object (membersOf plans parent group) fresh r list → r ≡ TooFar → PlansFor refs types members fields sets selections fragments nodes variables plans top parent group object planned.TooFar plans
+  pub plans-stopped : {fresh list : List ℕ} {r : Collecting}
+      → Gathers types members sets selections fragments nodes variables object (membersOf plans parent group) fresh r list → r ≡ TooFar
+      → PlansFor refs types members fields sets selections fragments nodes variables plans top parent group object planned.TooFar plans
   plans-stopped {fresh = fresh'} {list = list'} c e =
       let d : Gathers types members sets selections fragments nodes variables object (membersOf plans parent group) fresh' TooFar list' = rw e at c in
       record {
@@ -129,19 +140,24 @@ module _ {refs types members fields sets selections fragments nodes variables pl
         small-plan = λ made top' s. absurd (let z : _≡_ {A = ℕ} 0 1 = cc in omega arith);
         comes = λ Q t a. record {
           standing = a;
-          stops = stops-too Q object (membersOf plans parent group) tooFar (rw (t .same-types, t .same-members, t .same-sets, t .same-selections, t .same-fragments, t .same-nodes, t .same-variables) (d .comes));
+          stops = stops-too Q object (membersOf plans parent group) tooFar (rw
+              (t .same-types, t .same-members, t .same-sets, t .same-selections, t .same-fragments, t .same-nodes, t .same-variables) (d .comes));
         };
       }
 
-  pub plans-many : {fresh list : List ℕ} {r : Collecting} → Gathers types members sets selections fragments nodes variables object (membersOf plans parent group) fresh r list → r ≡ TooManyFields → PlansFor refs types members fields sets selections fragments nodes variables plans top parent group object planned.TooManyFields plans
+  pub plans-many : {fresh list : List ℕ} {r : Collecting} → Gathers types members sets selections fragments nodes variables object
+      (membersOf plans parent group) fresh r list → r ≡ TooManyFields
+      → PlansFor refs types members fields sets selections fragments nodes variables plans top parent group object planned.TooManyFields plans
   plans-many {fresh = fresh'} {list = list'} c e =
-      let d : Gathers types members sets selections fragments nodes variables object (membersOf plans parent group) fresh' TooManyFields list' = rw e at c in
+      let d : Gathers types members sets selections fragments nodes variables object
+      (membersOf plans parent group) fresh' TooManyFields list' = rw e at c in
       record {
         kept = record { sized = refl; same = λ i l. refl };
         small-plan = λ made top' s. absurd (let z : _≡_ {A = ℕ} 0 1 = cc in omega arith);
         comes = λ Q t a. record {
           standing = a;
-          stops = stops-too Q object (membersOf plans parent group) tooManyFields (rw (t .same-types, t .same-members, t .same-sets, t .same-selections, t .same-fragments, t .same-nodes, t .same-variables) (d .comes));
+          stops = stops-too Q object (membersOf plans parent group) tooManyFields (rw
+              (t .same-types, t .same-members, t .same-sets, t .same-selections, t .same-fragments, t .same-nodes, t .same-variables) (d .comes));
         };
       }
 
@@ -150,7 +166,8 @@ module _ {refs types members fields sets selections fragments nodes variables pl
       → PutPlan refs types fields selections list (g .count) top (32768 + object) parent group object plans s plans'
       → PlansFor refs types members fields sets selections fragments nodes variables plans top parent group object s plans'
   plans-made {fresh = fresh'} {list = list'} {g = g'} {s = s'} {plans' = after'} room c e q =
-      let d : Gathers types members sets selections fragments nodes variables object (membersOf plans parent group) fresh' (On g') list' = rw e at c in
+      let d : Gathers types members sets selections fragments nodes variables object (membersOf plans parent group) fresh'
+      (On g') list' = rw e at c in
       record {
         kept = q .kept;
         small-plan = λ made top' s. let m = sym s ∙ q .is in let n : made ≡ top = cc in omega (arith, w .there, w .small, room);
@@ -162,9 +179,11 @@ module _ {refs types members fields sets selections fragments nodes variables pl
 
   -- what was gathered can be put
   pub gathered-puttable : {fresh list : List ℕ} {g : Gathered} {r : Collecting} → 8 * (top + 256) ≤ length plans
-      → Gathers types members sets selections fragments nodes variables object (membersOf plans parent group) fresh r list → r ≡ On g → Puttable refs types fields selections list (g .count) top parent group plans
+      → Gathers types members sets selections fragments nodes variables object (membersOf plans parent group) fresh r list → r ≡ On g
+      → Puttable refs types fields selections list (g .count) top parent group plans
   gathered-puttable {fresh = fresh'} {list = list'} {g = g'} room c e =
-      let d : Gathers types members sets selections fragments nodes variables object (membersOf plans parent group) fresh' (On g') list' = rw e at c in
+      let d : Gathers types members sets selections fragments nodes variables object (membersOf plans parent group) fresh'
+      (On g') list' = rw e at c in
       record {
         fitting = w .fitting;
         field = d .comes .shows .fields;
@@ -176,11 +195,14 @@ module _ {refs types members fields sets selections fragments nodes variables pl
         group-small = omega (arith, w .has, w .ends, w .there, w .small);
       }
 
-  pub plans-as : {r s : Planned} {plans' : List ℕ} → PlansFor refs types members fields sets selections fragments nodes variables plans top parent group object r plans'
+  pub plans-as : {r s : Planned} {plans' : List ℕ}
+      → PlansFor refs types members fields sets selections fragments nodes variables plans top parent group object r plans'
       → r ≡ s → PlansFor refs types members fields sets selections fragments nodes variables plans top parent group object s plans'
   plans-as q e = rw (← e) q
 
-  pub made-fits : {r : Planned} {plans' : List ℕ} {made top' : ℕ} → PlansFor refs types members fields sets selections fragments nodes variables plans top parent group object r plans' → r ≡ planned.At made top' → made < 4294967296
+  pub made-fits : {r : Planned} {plans' : List ℕ} {made top' : ℕ}
+      → PlansFor refs types members fields sets selections fragments nodes variables plans top parent group object r plans' → r
+      ≡ planned.At made top' → made < 4294967296
   made-fits {made = made'} {top' = top''} q e = omega (arith, q .small-plan made' top'' e)
 
 module _ {refs types fields sets selections fragments plans : List ℕ} {top parent group object : ℕ}

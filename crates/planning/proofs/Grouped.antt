@@ -44,7 +44,8 @@ module _ (key row : ℕ) where
   grouped-new f first (suc n) h =
       rw (ne-eqb (f first .key) key (h first (omega arith) (omega arith)), grouped-new f (suc first) n (λ j a b. h j (omega arith) (omega arith)))
 
-  grouped-old : (f g : ℕ → Group) (at first n : ℕ) → first ≤ at → at < first + n → ((j : ℕ) → first ≤ j → j < at → f j .key ≡ key → ⊥) → f at .key ≡ key
+  grouped-old : (f g : ℕ → Group) (at first n : ℕ) → first ≤ at → at < first + n → ((j : ℕ) → first ≤ j → j < at → f j .key ≡ key → ⊥)
+      → f at .key ≡ key
       → g at ≡ record { key = f at .key; first = f at .first; more = f at .more ++ (row ∷ []) } → ((j : ℕ) → (j ≡ at → ⊥) → f j ≡ g j)
       → grouped key row (tabled f first n) ≡ tabled g first n
   unfolding grouped tabled
@@ -136,7 +137,8 @@ row-put f e p = record {
 }
 
 module _ {refs types fields selections list : List ℕ} {object first : ℕ} {start plans owners : List ℕ} {groups i : ℕ}
-    (a : Grouping refs types fields selections list object first start plans owners groups i) (m : i < mostCollected) (n : length list ≡ mostCollected) where
+    (a : Grouping refs types fields selections list object first start plans owners groups i) (m : i < mostCollected) (n : length list
+    ≡ mostCollected) where
   abbrev at : ℕ
   at = getD list i 0
 
@@ -186,7 +188,8 @@ module _ {refs types fields selections list : List ℕ} {object first : ℕ} {st
       members group k false e = rw (owned-other list owners i to there group (eqb-false to group e)) (a .members group k)
 
   -- to a new one
-  pub grouping-new : {plans' : List ℕ} {field : FieldSelection} → Which plans first groups key groups → FieldRow selections at → field ≡ fieldSelection selections at
+  pub grouping-new : {plans' : List ℕ} {field : FieldSelection} → Which plans first groups key groups → FieldRow selections at → field
+      ≡ fieldSelection selections at
       → PutRow refs types fields object (first + groups) at field plans plans'
       → Grouping refs types fields selections list object first start plans' (set owners i groups) (groups + 1) (i + 1)
   unfolding rest
@@ -199,7 +202,8 @@ module _ {refs types fields selections list : List ℕ} {object first : ℕ} {st
     members = λ group k. members group k (decLe groups group);
     single = λ s group k. single (omega arith) group k (decLe groups group);
     is = put-so-far
-        ∙ (grouped-new key at (λ group. groupOf selections (firstOf plans (first + group)) (owned list owners group i)) 0 groups (λ j x y. other-key groups w j (omega arith))
+        ∙ (grouped-new key at (λ group. groupOf selections (firstOf plans (first + group)) (owned list owners group i)) 0 groups
+        (λ j x y. other-key groups w j (omega arith))
         ∙ sym (tabled-more after-put 0 groups ∙ rw (last, sym (tabled-same before-put after-put 0 groups (λ j x y. same j (omega arith))))));
   })
     where
@@ -246,7 +250,8 @@ module _ {refs types fields selections list : List ℕ} {object first : ℕ} {st
 
 -- ---- one field, as the code puts it
 
-module _ {refs types fields selections list : List ℕ} {first : ℕ} (i : ℕ) {plans owners : List ℕ} (w : Groupable refs types fields selections list first (i + 1) plans owners) where
+module _ {refs types fields selections list : List ℕ} {first : ℕ} (i : ℕ) {plans owners : List ℕ}
+    (w : Groupable refs types fields selections list first (i + 1) plans owners) where
   pub defined-few : (object : ℕ) → typeAt types object .fields .first + typeAt types object .fields .count ≤ mostFields
   defined-few object = w .fitting .defined object
 
@@ -267,11 +272,13 @@ module _ {refs types fields selections list : List ℕ} {first : ℕ} (i : ℕ) 
       which : Which plans first groups (fieldSelection selections (getD list i 0) .key) to
       which = rw (← e) h
 
-      pub field-old : {object : ℕ} → to < groups → (before : List ℕ) → Grouping refs types fields selections list object first before plans owners groups i
+      pub field-old : {object : ℕ} → to < groups → (before : List ℕ)
+          → Grouping refs types fields selections list object first before plans owners groups i
           → Grouping refs types fields selections list object first before plans (set owners i to) groups (i + 1)
       field-old l before a = grouping-old a (omega (arith, w .few)) (w .listed) to which l
 
-      pub field-new : {object : ℕ} {plans' : List ℕ} → groups ≤ to → PutRow refs types fields object (first + groups) (getD list i 0) field plans plans'
+      pub field-new : {object : ℕ} {plans' : List ℕ} → groups ≤ to
+          → PutRow refs types fields object (first + groups) (getD list i 0) field plans plans'
           → (before : List ℕ) → Grouping refs types fields selections list object first before plans owners groups i
           → Grouping refs types fields selections list object first before plans' (set owners i to) (groups + 1) (i + 1)
       field-new l p before a =

@@ -44,13 +44,19 @@ module _ (T : Tables) (h : lawful T ≡ true) where
       let a : length (T .refs) ≤ ty * 3 + 0 = omega arith in
       let b : length (T .refs) ≤ ty * 3 + 1 = omega arith in
       let c : length (T .refs) ≤ ty * 3 + 2 = omega arith in
-      rw (List·getD-eq-default (T .refs) 0 {n = ty * 3 + 0} a, List·getD-eq-default (T .refs) 0 {n = ty * 3 + 1} b, List·getD-eq-default (T .refs) 0 {n = ty * 3 + 2} c)
+      rw (
+        List·getD-eq-default (T .refs) 0 {n = ty * 3 + 0} a,
+        List·getD-eq-default (T .refs) 0 {n = ty * 3 + 1} b,
+        List·getD-eq-default
+            (T .refs) 0 {n = ty * 3 + 2} c,
+      )
       (omega arith)
 
   fields-there : (type : ℕ) → type < typeCount T → typeAt (T .types) type .fields .first + typeAt (T .types) type .fields .count ≤ mostFields
   fields-there type l =
       let t = typeAt (T .types) type in
-      let parts = and-right (isRow (nameCount T) (t .name)) (within (fieldCount T) (t .fields) && within (memberCount T) (t .members)) (type-row T h type l) in
+      let parts = and-right (isRow (nameCount T) (t .name)) (within (fieldCount T) (t .fields) && within (memberCount T) (t .members))
+      (type-row T h type l) in
       let r = leb-true (t .fields .first + t .fields .count) (fieldCount T)
       (and-left (within (fieldCount T) (t .fields)) (within (memberCount T) (t .members)) parts) in
       omega (arith, few-fields T h)
@@ -72,9 +78,11 @@ module _ (T : Tables) (h : lawful T ≡ true) where
       let what = and-right (conditionLawful (nameCount T) (n .skip) && conditionLawful (nameCount T) (n .include))
       (whatLawful (nameCount T) (refCount T) (setCount T) (givenCount T) (n .what)) (selection-row T h row l) in
       let is : fieldSelectionLawful (nameCount T) (refCount T) (setCount T) (givenCount T) s ≡ true = rw (f .is) at what in
-      let some = and-left ((isRow (nameCount T) (s .name) && isRow (nameCount T) (s .key)) && (within (givenCount T) (s .given) && isRow (refCount T) (s .ty)))
+      let some = and-left ((isRow (nameCount T) (s .name) && isRow (nameCount T) (s .key)) && (within (givenCount T) (s .given) && isRow
+      (refCount T) (s .ty)))
       (isRow (setCount T) (s .set)) is in
-      let two = and-left (isRow (nameCount T) (s .name) && isRow (nameCount T) (s .key)) (within (givenCount T) (s .given) && isRow (refCount T) (s .ty)) some in
+      let two = and-left (isRow (nameCount T) (s .name) && isRow (nameCount T) (s .key)) (within (givenCount T) (s .given) && isRow (refCount T)
+      (s .ty)) some in
       let one = ltb-true (s .name) (nameCount T) (and-left (isRow (nameCount T) (s .name)) (isRow (nameCount T) (s .key)) two) in
       let other = ltb-true (s .key) (nameCount T) (and-right (isRow (nameCount T) (s .name)) (isRow (nameCount T) (s .key)) two) in
       let few = few-names T h in
@@ -88,7 +96,8 @@ module _ (T : Tables) (h : lawful T ≡ true) where
       let m = at-most selectionWidth 0 mostSelections (T .selections) (selections-counted T h) in
       let a : length (T .selections) ≤ row * 10 + 4 = omega arith in
       let b : length (T .selections) ≤ row * 10 + 5 = omega arith in
-      rw (List·getD-eq-default (T .selections) 0 {n = row * 10 + 4} a, List·getD-eq-default (T .selections) 0 {n = row * 10 + 5} b) (omega arith, omega arith)
+      rw (List·getD-eq-default (T .selections) 0 {n = row * 10 + 4} a, List·getD-eq-default (T .selections) 0 {n = row * 10 + 5} b)
+      (omega arith, omega arith)
 
   pub fitting : Fitting (T .refs) (T .types) (T .fields) (T .selections)
   fitting = record {

@@ -54,7 +54,8 @@ module _ (types members sets selections fragments nodes variables : List ℕ) (o
   pub collect-append : (a b : List ℕ) (c : Collected) (k : Choices) → rows (a ++ b) c k ≡ (rows a c >>= (λ d. rows b d)) k
   unfolding collectFields onward _>>=_ pure
   collect-append [] b c k = sym (went (pure c) (λ d. rows b d) c k refl)
-  collect-append (row ∷ a) b c k = go (selectionDone types members sets selections fragments nodes variables mostOpen object row c k) (collect-append a b)
+  collect-append (row ∷ a) b c k = go (selectionDone types members sets selections fragments nodes variables mostOpen object row c k)
+      (collect-append a b)
     where
       go : (x : Res Collected) → ((d : Collected) (j : Choices) → rows (a ++ b) d j ≡ (rows a d >>= (λ e. rows b e)) j)
           → onward x (λ d. rows (a ++ b) d) ≡ onward (onward x (λ d. rows a d)) (λ e. rows b e)
@@ -71,10 +72,12 @@ module _ (sets selections : List ℕ) where
   pub merge-more : (list : List ℕ) (row : ℕ) → merged (list ++ (row ∷ [])) ≡ merged list ++ childRows sets selections row
   unfolding mergeSelectionSets
   merge-more [] row = append-nil (childRows sets selections row)
-  merge-more (first ∷ list) row = rw (merge-more list row) (sym (append-assoc (childRows sets selections first) (merged list) (childRows sets selections row)))
+  merge-more (first ∷ list) row = rw (merge-more list row) (sym (append-assoc (childRows sets selections first) (merged list)
+      (childRows sets selections row)))
 
   pub merge-picked : (row owner : ℕ → ℕ) (group n : ℕ)
-      → merged (picked row owner group (suc n)) ≡ merged (picked row owner group n) ++ cond (eqb (owner n) group) (childRows sets selections (row n)) []
+      → merged (picked row owner group (suc n)) ≡ merged (picked row owner group n) ++ cond (eqb (owner n) group) (childRows sets selections
+      (row n)) []
   unfolding picked
   merge-picked row owner group n = go (eqb (owner n) group)
     where
@@ -94,7 +97,8 @@ module _ (types members sets selections fragments nodes variables : List ℕ) (o
       stays selections fragments (rows types members sets selections fragments nodes variables object (childRows sets selections row)) (λ c. c)
       (λ c s. (rw (eq-eqb (fieldSelection selections row .set) 0 y), s))
 
-  pub child-set : (row : ℕ) {field : FieldSelection} {range : Range} {r : Collecting} {list' : List ℕ} → field ≡ fieldSelection selections row → (field .set ≡ 0 → ⊥)
+  pub child-set : (row : ℕ) {field : FieldSelection} {range : Range} {r : Collecting} {list' : List ℕ} → field ≡ fieldSelection selections row
+      → (field .set ≡ 0 → ⊥)
       → range ≡ setAt sets (field .set) → CollectsRows types members sets selections fragments nodes variables mostOpen object range list g r list'
       → CollectsChild types members sets selections fragments nodes variables object row list g r list'
   unfolding selectionsOf
@@ -113,7 +117,8 @@ module _ (types members sets selections fragments nodes variables : List ℕ) (o
   owned-not plans row group e n =
       let m : wordAt plans row 1 ≡ group → ⊥ = rw (← e) n in
       stays selections fragments
-      (rows types members sets selections fragments nodes variables object (cond (eqb (wordAt plans row 1) group) (childRows sets selections (wordAt plans row 0)) []))
+      (rows types members sets selections fragments nodes variables object (cond (eqb (wordAt plans row 1) group) (childRows sets selections
+      (wordAt plans row 0)) []))
       (λ c. c) (λ c s. (rw (ne-eqb (wordAt plans row 1) group m), s))
 
   pub owned-is : (plans : List ℕ) (row group : ℕ) {owner field : ℕ} {r : Collecting} {list' : List ℕ} → owner ≡ wordAt plans row 1 → owner ≡ group
@@ -170,7 +175,8 @@ module _ (types members sets selections fragments nodes variables plans : List �
 
     pub merging-again : {g' : Gathered} → r ≡ On g' → Merging list' g' (i + 1)
     merging-again {g' = after'} e =
-        let c : GoesOn selections fragments (rows types members sets selections fragments nodes variables object next (a .gone .collected)) after' list'
+        let c : GoesOn selections fragments (rows types members sets selections fragments nodes variables object next
+        (a .gone .collected)) after' list'
         = rw e at (q .collects (a .gone .collected) (a .gone .shows)) in
         record {
           below = omega arith;
@@ -193,14 +199,16 @@ module _ (types members sets selections fragments nodes variables plans : List �
             ∙ rw (stop-on s k n d h))
 
         all : (s : ℕ) → ((k : Choices) → rows types members sets selections fragments nodes variables object next (a .gone .collected) k ≡ stop s [])
-            → (k : Choices) → rows types members sets selections fragments nodes variables object (merged sets selections (those fields)) noneYet k ≡ stop s []
+            → (k : Choices) → rows types members sets selections fragments nodes variables object (merged sets selections
+            (those fields)) noneYet k ≡ stop s []
         all s h k =
             let e : fields ≡ (i + 1) + (fields - (i + 1)) = omega arith in
             rw e (stop-on s k (i + 1) (fields - (i + 1)) (onto k ∙ h k))
 
         go : (r : Collecting) → Stopped r
             → Comes selections fragments (rows types members sets selections fragments nodes variables object next (a .gone .collected)) r list'
-            → Comes selections fragments (rows types members sets selections fragments nodes variables object (merged sets selections (those fields)) noneYet) r list'
+            → Comes selections fragments (rows types members sets selections fragments nodes variables object (merged sets selections
+            (those fields)) noneYet) r list'
         go (On g) o h = absurd (miss stops 0 tt o)
         go TooFar o h = all tooFar h
         go TooManyFields o h = all tooManyFields h
@@ -222,7 +230,11 @@ module _ (types members sets selections fragments nodes variables plans : List �
   group-one {row = row'} w e t q =
       let m : groupCount plans plan ≡ fieldCount plans plan = sym g ∙ (e ∙ f) in
       rw (eq-eqb (groupCount plans plan) (fieldCount plans plan) m, ← t)
-      (record { kept = q .kept; comes = rw (append-nil (childRows sets selections row')) (q .collects noneYet (shows-none selections fragments (w .room))) })
+      (record {
+        kept = q .kept;
+        comes = rw (append-nil (childRows sets selections row')) (q .collects noneYet (shows-none selections fragments
+            (w .room)));
+      })
 
   pub group-several : {first : ℕ} → (groups ≡ fields → ⊥) → first ≡ plan + 1 + groups
       → Gathers types members sets selections fragments nodes variables object

@@ -39,7 +39,8 @@ module _ {plans plans' : List ℕ} {top : ℕ} (p : Kept plans (8 * top) plans')
     pub end-on : planEnd plans' plan ≡ planEnd plans plan
     end-on = rw (groups-on, fields-on)
 
-    several : eqb (groupCount plans plan) (fieldCount plans plan) ≡ false → planEnd plans plan ≡ plan + 1 + groupCount plans plan + fieldCount plans plan
+    several : eqb (groupCount plans plan) (fieldCount plans plan) ≡ false → planEnd plans plan
+        ≡ plan + 1 + groupCount plans plan + fieldCount plans plan
     unfolding fieldRows
     several s = rw s
 
@@ -48,8 +49,10 @@ module _ {plans plans' : List ℕ} {top : ℕ} (p : Kept plans (8 * top) plans')
     members-on group l = rw (groups-on, fields-on) (go (eqb (groupCount plans plan) (fieldCount plans plan)) refl)
       where
         go : (b : Bool) → eqb (groupCount plans plan) (fieldCount plans plan) ≡ b
-            → cond b (firstOf plans' (plan + 1 + group) ∷ []) (picked (λ i. wordAt plans' (plan + 1 + groupCount plans plan + i) 0) (λ i. wordAt plans' (plan + 1 + groupCount plans plan + i) 1) group (fieldCount plans plan))
-            ≡ cond b (firstOf plans (plan + 1 + group) ∷ []) (picked (λ i. wordAt plans (plan + 1 + groupCount plans plan + i) 0) (λ i. wordAt plans (plan + 1 + groupCount plans plan + i) 1) group (fieldCount plans plan))
+            → cond b (firstOf plans' (plan + 1 + group) ∷ []) (picked (λ i. wordAt plans' (plan + 1 + groupCount plans plan + i) 0)
+            (λ i. wordAt plans' (plan + 1 + groupCount plans plan + i) 1) group (fieldCount plans plan))
+            ≡ cond b (firstOf plans (plan + 1 + group) ∷ []) (picked (λ i. wordAt plans (plan + 1 + groupCount plans plan + i) 0)
+            (λ i. wordAt plans (plan + 1 + groupCount plans plan + i) 1) group (fieldCount plans plan))
         go true s = rw (word-on (plan + 1 + group) 0 (omega arith) (omega arith))
         go false s =
             let f : planEnd plans plan ≡ plan + 1 + groupCount plans plan + fieldCount plans plan = several s in
@@ -64,12 +67,14 @@ module _ {plans plans' : List ℕ} {top : ℕ} (p : Kept plans (8 * top) plans')
         (λ j a b. rw (word-on (plan + 1 + j) 0 (omega arith) (omega arith), members-on j (omega arith))))
 
   -- a plan that is right stays right
-  pub plan-on : (Q : Request) {plan object : ℕ} {set : List ℕ} (top' : ℕ) → top ≤ top' → 8 * top' ≤ length plans' → PlanOf Q plans top plan object set → PlanOf Q plans' top' plan object set
+  pub plan-on : (Q : Request) {plan object : ℕ} {set : List ℕ} (top' : ℕ) → top ≤ top' → 8 * top' ≤ length plans'
+      → PlanOf Q plans top plan object set → PlanOf Q plans' top' plan object set
   plan-on Q {plan} top' l m a = record {
     ends = rw (end-on plan (a .ends)) (omega (arith, a .ends));
     there = m;
     collected = λ k. a .collected k ∙ rw (groups-at-on plan (a .ends) (Q .tables .selections));
-    rows = λ group h. row-on (plan + 1 + group) (8 * top) p (omega (arith, a .ends, rw (groups-on plan (a .ends)) at h)) (a .rows group (rw (groups-on plan (a .ends)) at h));
+    rows = λ group h. row-on (plan + 1 + group) (8 * top) p (omega (arith, a .ends, rw (groups-on plan (a .ends)) at h)) (a .rows group (rw
+        (groups-on plan (a .ends)) at h));
     members = λ group h.
         let k : group < groupCount plans plan = rw (groups-on plan (a .ends)) at h in
         rw (members-on plan (a .ends) group k, word-on (plan + 1 + group) 0 (omega (arith, a .ends)) (omega arith)) (a .members group k);
@@ -105,7 +110,8 @@ module _ {refs types fields selections list : List ℕ} {object at groups count 
     stands : Holds refs types fields selections object (take count list) plans at
     stands = record {
       groups = rw gc
-          (tabled-same (groupAt selections plans at) (λ group. groupOf selections (firstOf made (at + 1 + group)) (owned list owners group count)) 0 groups
+          (tabled-same (groupAt selections plans at) (λ group. groupOf selections (firstOf made (at + 1 + group))
+          (owned list owners group count)) 0 groups
           (λ j x y. rw (same j (omega arith) 0 (omega arith), mem j (omega arith))) ∙ sym (a .is));
       rows = λ group l. row-same (at + 1 + group) (same group (rw gc at l)) (a .rows group (rw gc at l));
       members = λ group l. rw (mem group (rw gc at l), same group (rw gc at l) 0 (omega arith)) (a .members group (rw gc at l));
@@ -138,7 +144,8 @@ module _ {refs types fields selections list : List ℕ} {object at groups count 
           parent = h .is-plan;
           of-group = h .is-group;
           holds = stands headed (h .is-groups) (λ group l column b. h .behind (8 * (at + 1 + group) + column) (omega arith))
-              (λ group l. rw (h .is-groups, h .is-fields, eq-eqb groups count e, h .behind (8 * (at + 1 + group) + 0) (omega arith)) (sym (a .single e group l)))
+              (λ group l. rw (h .is-groups, h .is-fields, eq-eqb groups count e, h .behind (8 * (at + 1 + group) + 0) (omega arith)) (sym
+              (a .single e group l)))
               (λ row l k. absurd (omega arith));
         }
 
@@ -160,7 +167,8 @@ module _ {refs types fields selections list : List ℕ} {object at groups count 
       unfolding membersOf fieldsOf
       its-members group l =
           rw (its-groups, its-fields, ne-eqb groups count n)
-          (picked-same (λ i. wordAt put (at + 1 + groups + i) 0) (λ i. wordAt put (at + 1 + groups + i) 1) group (λ i. getD list i 0) (λ i. getD owners i 0) count
+          (picked-same (λ i. wordAt put (at + 1 + groups + i) 0) (λ i. wordAt put (at + 1 + groups + i) 1) group (λ i. getD list i 0)
+          (λ i. getD owners i 0) count
           (λ i m. q .fields i m) (λ i m. q .owns i m))
 
       pub plan-several : PutPlan refs types fields selections list count at by plan group object start (planned.At at (at + 1 + groups + count)) put

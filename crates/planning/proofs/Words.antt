@@ -43,24 +43,28 @@ pub put-at : (vs l : List ℕ) (at column j : ℕ) → column ≤ j → j < colu
 unfolding putAll
 put-at [] l at column j a b r = absurd (omega arith)
 put-at (v ∷ vs) l at column j a b r =
-    go (decLe j column) (λ x. put-at vs (set l (at + column) v) at (suc column) j (omega arith) (omega arith) (rw (length-set l (at + column) v) (omega arith)))
+    go (decLe j column) (λ x. put-at vs (set l (at + column) v) at (suc column) j (omega arith) (omega arith) (rw (length-set l (at + column) v)
+    (omega arith)))
   where
     go : Dec (j ≤ column) → (column < j → getD (putAll (set l (at + column) v) at (suc column) vs) (at + j) 0 ≡ getD vs (j - suc column) 0)
         → getD (putAll (set l (at + column) v) at (suc column) vs) (at + j) 0 ≡ getD (v ∷ vs) (j - column) 0
     go (yes x) later =
         let e : j ≡ column = omega arith in
         let z : column - column ≡ 0 = omega arith in
-        rw (e, z) (put-before vs (set l (at + column) v) at (suc column) (at + column) (omega arith) ∙ getD-set-same l (at + column) v 0 (omega arith))
+        rw (e, z) (put-before vs (set l (at + column) v) at (suc column) (at + column) (omega arith)
+        ∙ getD-set-same l (at + column) v 0 (omega arith))
     go (no x) later =
         let z : j - column ≡ suc (j - suc column) = omega arith in
         rw z (later (omega arith))
 
 -- the six words of a group's row
-pub put-row : {refs types fields plans : List ℕ} {object row selection own : ℕ} {field : FieldSelection} {wanted : Expected} → 8 * row + 8 ≤ length plans
+pub put-row : {refs types fields plans : List ℕ} {object row selection own : ℕ} {field : FieldSelection} {wanted : Expected}
+    → 8 * row + 8 ≤ length plans
     → own ≡ definitionCode (definitionOf (schema types fields) object (field .name))
     → ((d : Option Definition) → own ≡ definitionCode d → wanted ≡ expectedOf refs types fields d (field .ty))
     → PutRow refs types fields object row selection field plans
-    (set (set (set (set (set (set plans (8 * row + 0) selection) (8 * row + 1) own) (8 * row + 2) (field .name)) (8 * row + 3) (field .key)) (8 * row + 4) (wanted .what)) (8 * row + 5) (wanted .of))
+    (set (set (set (set (set (set plans (8 * row + 0) selection) (8 * row + 1) own) (8 * row + 2) (field .name)) (8 * row + 3) (field .key))
+    (8 * row + 4) (wanted .what)) (8 * row + 5) (wanted .of))
 unfolding putAll
 put-row {plans = plans'} {row = row'} {selection = selection'} {own = own'} {field = field'} {wanted = wanted'} l d w =
     let vs : List ℕ = selection' ∷ own' ∷ field' .name ∷ field' .key ∷ wanted' .what ∷ wanted' .of ∷ [] in
@@ -122,7 +126,12 @@ pub ruleset seeking = (seek-begin, seek-next, seek-found, seek-none)
 
 module _ (list owners : List ℕ) (first : ℕ) {plans : List ℕ} where
   pub fields-begin : PutFields list owners first 0 plans plans
-  fields-begin = record { kept = record { sized = refl; same = λ i h. refl }; fields = λ i l. absurd (omega arith); owns = λ i l. absurd (omega arith) }
+  fields-begin = record {
+    kept = record { sized = refl; same = λ i h. refl };
+    fields = λ i l. absurd (omega arith);
+    owns = λ i l. absurd
+        (omega arith);
+  }
 
   pub fields-next : {now : List ℕ} {i count : ℕ} → PutFields list owners first i plans now → i < count → 8 * (first + count) ≤ length plans
       → PutFields list owners first (i + 1) plans (set (set now (8 * (first + i) + 0) (getD list i 0)) (8 * (first + i) + 1) (getD owners i 0))
@@ -141,21 +150,25 @@ module _ (list owners : List ℕ) (first : ℕ) {plans : List ℕ} where
       there : 8 * (first + i') + 8 ≤ length now'
       there = omega (arith, a .kept .sized)
 
-      fields' : (j : ℕ) → j < i' + 1 → Dec (i' ≤ j) → wordAt (putAll now' (8 * (first + i')) 0 (getD list i' 0 ∷ getD owners i' 0 ∷ [])) (first + j) 0 ≡ getD list j 0
+      fields' : (j : ℕ) → j < i' + 1 → Dec (i' ≤ j) → wordAt (putAll now' (8 * (first + i')) 0 (getD list i' 0 ∷ getD owners i' 0 ∷ []))
+          (first + j) 0 ≡ getD list j 0
       fields' j l (yes x) =
           let e : j ≡ i' = omega arith in
           rw e (put-at (getD list i' 0 ∷ getD owners i' 0 ∷ []) now' (8 * (first + i')) 0 0 (omega arith) (omega arith) (omega (arith, there)))
       fields' j l (no x) =
-          put-before (getD list i' 0 ∷ getD owners i' 0 ∷ []) now' (8 * (first + i')) 0 (8 * (first + j) + 0) (omega arith) ∙ a .fields j (omega arith)
+          put-before (getD list i' 0 ∷ getD owners i' 0 ∷ []) now' (8 * (first + i')) 0 (8 * (first + j) + 0) (omega arith)
+          ∙ a .fields j (omega arith)
 
-      owns' : (j : ℕ) → j < i' + 1 → Dec (i' ≤ j) → wordAt (putAll now' (8 * (first + i')) 0 (getD list i' 0 ∷ getD owners i' 0 ∷ [])) (first + j) 1 ≡ getD owners j 0
+      owns' : (j : ℕ) → j < i' + 1 → Dec (i' ≤ j) → wordAt (putAll now' (8 * (first + i')) 0 (getD list i' 0 ∷ getD owners i' 0 ∷ []))
+          (first + j) 1 ≡ getD owners j 0
       owns' j l (yes x) =
           let e : j ≡ i' = omega arith in
           rw e (put-at (getD list i' 0 ∷ getD owners i' 0 ∷ []) now' (8 * (first + i')) 0 1 (omega arith) (omega arith) (omega (arith, there)))
       owns' j l (no x) =
           put-before (getD list i' 0 ∷ getD owners i' 0 ∷ []) now' (8 * (first + i')) 0 (8 * (first + j) + 1) (omega arith) ∙ a .owns j (omega arith)
 
-  pub fields-end : {now : List ℕ} {i count : ℕ} → PutFields list owners first i plans now → i ≤ count → count ≤ i → PutFields list owners first count plans now
+  pub fields-end : {now : List ℕ} {i count : ℕ} → PutFields list owners first i plans now → i ≤ count → count ≤ i
+      → PutFields list owners first count plans now
   fields-end {i = i'} {count = count'} a l k = let e : count' ≡ i' = omega arith in rw e a
 
 pub ruleset fielding = (fields-begin, fields-next, fields-end)

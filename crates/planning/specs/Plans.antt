@@ -109,19 +109,23 @@ document sets selections = record { tables = tables [] [] [] [] [] [] [] sets se
 
 pub record GroupRow (refs types fields selections : List ℕ) (object : ℕ) (plans : List ℕ) (row : ℕ) : Type 0 where
   pub field : FieldRow selections (firstOf plans row)
-  pub definition : wordAt plans row 1 ≡ definitionCode (definitionOf (schema types fields) object (fieldSelection selections (firstOf plans row) .name))
+  pub definition : wordAt plans row 1 ≡ definitionCode (definitionOf (schema types fields) object (fieldSelection selections
+      (firstOf plans row) .name))
   pub name : wordAt plans row 2 ≡ fieldSelection selections (firstOf plans row) .name
   pub key : wordAt plans row 3 ≡ fieldSelection selections (firstOf plans row) .key
   pub what : wordAt plans row 4
-      ≡ expectedOf refs types fields (definitionOf (schema types fields) object (fieldSelection selections (firstOf plans row) .name)) (fieldSelection selections (firstOf plans row) .ty) .what
+      ≡ expectedOf refs types fields (definitionOf (schema types fields) object (fieldSelection selections (firstOf plans row) .name))
+      (fieldSelection selections (firstOf plans row) .ty) .what
   pub of : wordAt plans row 5
-      ≡ expectedOf refs types fields (definitionOf (schema types fields) object (fieldSelection selections (firstOf plans row) .name)) (fieldSelection selections (firstOf plans row) .ty) .of
+      ≡ expectedOf refs types fields (definitionOf (schema types fields) object (fieldSelection selections (firstOf plans row) .name))
+      (fieldSelection selections (firstOf plans row) .ty) .of
 
 -- What stands in a plan, whatever it was made for: its groups are those of these fields.
 pub record Holds (refs types fields selections : List ℕ) (object : ℕ) (list : List ℕ) (plans : List ℕ) (plan : ℕ) : Type 0 where
   pub groups : groupsAt selections plans plan ≡ groupsOf selections [] list
   pub rows : (group : ℕ) → group < groupCount plans plan → GroupRow refs types fields selections object plans (plan + 1 + group)
-  pub members : (group : ℕ) → group < groupCount plans plan → membersOf plans plan group ≡ firstOf plans (plan + 1 + group) ∷ rest (membersOf plans plan group)
+  pub members : (group : ℕ) → group < groupCount plans plan → membersOf plans plan group
+      ≡ firstOf plans (plan + 1 + group) ∷ rest (membersOf plans plan group)
   -- no row but the head is taken for a head
   pub low : (row : ℕ) → plan < row → row < planEnd plans plan → wordAt plans row 0 < 32768
 
@@ -139,13 +143,15 @@ module _ (Q : Request) where
         → collect (T .types) (T .members) (T .sets) (T .selections) (T .fragments) (T .variables) (T .nodes) object set k
         ≡ done (groupsAt (T .selections) plans plan) [] k
     pub rows : (group : ℕ) → group < groupCount plans plan → GroupRow (T .refs) (T .types) (T .fields) (T .selections) object plans (plan + 1 + group)
-    pub members : (group : ℕ) → group < groupCount plans plan → membersOf plans plan group ≡ firstOf plans (plan + 1 + group) ∷ rest (membersOf plans plan group)
+    pub members : (group : ℕ) → group < groupCount plans plan → membersOf plans plan group
+        ≡ firstOf plans (plan + 1 + group) ∷ rest (membersOf plans plan group)
 
   -- a head names the plan before it and the group that it was made for
   pub record Head (plans : List ℕ) (top plan : ℕ) : Type 0 where
     pub behind : planEnd plans (wordAt plans plan 3) ≤ plan
     pub group : wordAt plans plan 4 < groupCount plans (wordAt plans plan 3)
-    pub right : PlanOf plans top plan (wordAt plans plan 0 - 32768) (mergeSelectionSets Q (membersOf plans (wordAt plans plan 3) (wordAt plans plan 4)))
+    pub right : PlanOf plans top plan (wordAt plans plan 0 - 32768) (mergeSelectionSets Q (membersOf plans (wordAt plans plan 3)
+        (wordAt plans plan 4)))
 
   pub record Standing (plans : List ℕ) (top : ℕ) : Type 0 where
     pub there : 8 * top ≤ length plans
@@ -231,7 +237,8 @@ pub record Puttable (refs types fields selections list : List ℕ) (count at pla
   pub plan-small : plan < mostWords
   pub group-small : group < mostWords
 
-pub record PutPlan (refs types fields selections list : List ℕ) (count at by plan group object : ℕ) (plans : List ℕ) (r : Planned) (plans' : List ℕ) : Type 0 where
+pub record PutPlan (refs types fields selections list : List ℕ) (count at by plan group object : ℕ) (plans : List ℕ) (r : Planned)
+    (plans' : List ℕ) : Type 0 where
   pub kept : Kept plans (8 * at) plans'
   pub is : r ≡ planned.At at (planEnd plans' at)
   pub ends : planEnd plans' at ≤ at + 256
@@ -249,7 +256,8 @@ childRows sets selections row = cond (eqb (fieldSelection selections row .set) 0
 module _ (types members sets selections fragments nodes variables : List ℕ) where
   abbrev pub CollectsChild : (object row : ℕ) (list : List ℕ) (g : Gathered) (r : Collecting) (list' : List ℕ) → Type 0
   CollectsChild object row list g r list' =
-      Collects selections fragments (rowsDone types members sets selections fragments nodes variables mostOpen object (childRows sets selections row)) list g r list'
+      Collects selections fragments (rowsDone types members sets selections fragments nodes variables mostOpen object
+      (childRows sets selections row)) list g r list'
 
   abbrev pub CollectsOwned : (plans : List ℕ) (object row group : ℕ) (list : List ℕ) (g : Gathered) (r : Collecting) (list' : List ℕ) → Type 0
   CollectsOwned plans object row group list g r list' =
@@ -261,7 +269,8 @@ module _ (types members sets selections fragments nodes variables : List ℕ) wh
   pub record Gathers (object : ℕ) (rows list : List ℕ) (r : Collecting) (list' : List ℕ) : Type 0 where
     pub kept : length list' ≡ length list
     pub comes : Comes selections fragments
-        (rowsDone types members sets selections fragments nodes variables mostOpen object (mergeSelectionSets (document sets selections) rows) noneYet) r list'
+        (rowsDone types members sets selections fragments nodes variables mostOpen object (mergeSelectionSets
+        (document sets selections) rows) noneYet) r list'
 
 -- the plan stands, and has the group
 pub record Lookable (plans : List ℕ) (plan group : ℕ) : Type 0 where
@@ -301,7 +310,8 @@ module _ (Q : Request) (set plans : List ℕ) (top object : ℕ) where
   pub record Stopped (code : ℕ) (plans' : List ℕ) : Type 0 where
     pub standing : Standing Q plans' top
     pub stops : (k : Choices)
-        → collect (Q .tables .types) (Q .tables .members) (Q .tables .sets) (Q .tables .selections) (Q .tables .fragments) (Q .tables .variables) (Q .tables .nodes) object set k
+        → collect (Q .tables .types) (Q .tables .members) (Q .tables .sets) (Q .tables .selections) (Q .tables .fragments)
+        (Q .tables .variables) (Q .tables .nodes) object set k
         ≡ stop code []
 
   abbrev pub Planning : Planned → (plans' : List ℕ) → Type 0
@@ -310,7 +320,8 @@ module _ (Q : Request) (set plans : List ℕ) (top object : ℕ) where
   Planning planned.TooFar plans' = Stopped tooFar plans'
   Planning planned.TooManyFields plans' = Stopped tooManyFields plans'
 
-pub record PlansFor (refs types members fields sets selections fragments nodes variables plans : List ℕ) (top plan group object : ℕ) (r : Planned) (plans' : List ℕ) : Type 0 where
+pub record PlansFor (refs types members fields sets selections fragments nodes variables plans : List ℕ) (top plan group object : ℕ)
+    (r : Planned) (plans' : List ℕ) : Type 0 where
   pub kept : Kept plans (8 * top) plans'
   pub small-plan : (made top' : ℕ) → r ≡ planned.At made top' → made < mostWords
   pub comes : (Q : Request) → Lent refs types members fields sets selections fragments nodes variables Q → Standing Q plans top
