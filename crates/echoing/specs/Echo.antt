@@ -21,7 +21,7 @@ use Rattle.values.specs.declared.node.Put.the-variants.{At, TooFar}
 
 -- ---- A text that was written, if there was room
 
--- the run came to this value, whatever choices it was given
+-- from some choices the run came to this value
 pub record Comes {A : Type 0} (m : M A) (v : A) : Type 0 where
   pub log : Log
   pub from : Choices
