@@ -91,8 +91,7 @@ module _ {G : Type 0} (run : G → M Val) (key : G → List ℕ) (z : G) (cs : C
       unfolding anyOrder mark _>>=_
       setting-lost e =
           let f = fall-of (as-entry (keyed (key (groupAt slots j)))) (run (groupAt slots j) (drop c cs)) (sym e ∙ q .what) in
-          so-lost-set cs (run (groupAt slots j)) _ next q f refl («then» (h .wrote) (q .wrote))
-          (rides-mark p groups _)
+          so-lost-set cs (run (groupAt slots j)) _ next q f refl (h .wrote) (rides-mark p groups _)
 
       before : List ℕ
       before = slotted key gs (take (slot slots j) slots)

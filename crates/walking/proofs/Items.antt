@@ -87,7 +87,7 @@ module _ {G : Type 0} (run : G → M Val) where
       pub listing-lost : {f : Failure} → d .what ≡ Fails f
           → Gives as-value cs text₀ errors₀ s (listing [] gs (drop (s .choice) cs))
           (record { what = d .what; state = movedTo (d .state) (s .at) }) text' errors'
-      listing-lost e = so-lost cs (run g) _ next q (fall-of (as-entry comma) _ (sym e ∙ q .what)) refl («then» (h .wrote) (q .wrote)) (rides-same _)
+      listing-lost e = so-lost cs (run g) _ next q (fall-of (as-entry comma) _ (sym e ∙ q .what)) refl (h .wrote) (rides-same _)
 
     -- Several items were done at once, plainly.
     pub listing-plain : {text text' errors : List ℕ} {at errs choice at' choice' n : ℕ} {xs left : List G} {us : List Val}

@@ -48,13 +48,13 @@ settled-further false (done v w c) e k = refl
 
 module _ {b : Bool} {d : Done} {text : List ℕ} where
   pub nullify-placed : {k : Kind} → d .what ≡ Placed k → Nullifies b d text d text
-  nullify-placed e = record { level = refl; nullifies = λ cs before errors errors' s x g. rw (settled-placed b x (sym e ∙ g .what)) g }
+  nullify-placed e = record { level = refl; long = refl; nullifies = λ cs before errors errors' s x g. rw (settled-placed b x (sym e ∙ g .what)) g }
 
   pub nullify-further : {f : Failure} → d .what ≡ Fails f → OneOf (1 ∷ 2 ∷ []) (tagOf failures f) → Nullifies b d text d text
-  nullify-further e k = record { level = refl; nullifies = λ cs before errors errors' s x g. rw (settled-further b x (sym e ∙ g .what) k) g }
+  nullify-further e k = record { level = refl; long = refl; nullifies = λ cs before errors errors' s x g. rw (settled-further b x (sym e ∙ g .what) k) g }
 
   pub nullify-non-null : b ≡ true → Nullifies b d text d text
-  nullify-non-null e = record { level = refl; nullifies = λ cs before errors errors' s x g. rw e g }
+  nullify-non-null e = record { level = refl; long = refl; nullifies = λ cs before errors errors' s x g. rw e g }
 
   pub nullify-null : {f : Failure} {text' : List ℕ} {a : ℕ} {r : Done} → d .what ≡ Fails f → f ≡ Here → b ≡ false
       → Writes text text' (d .state .at) a nullName → r ≡ record { what = Placed kind.Null; state = movedTo (d .state) a }
@@ -62,6 +62,7 @@ module _ {b : Bool} {d : Done} {text : List ℕ} where
   unfolding caught printData
   nullify-null e h n w q = record {
     level = rw q;
+    long = w .wrote .long;
     nullifies = λ cs before errors errors' s x g.
         let p = here-of as-value x (sym (e ∙ ap Fails h) ∙ g .what) in
         let y = rw (p .2) at g in
@@ -94,7 +95,7 @@ module _ {start : ℕ} {d : Done} where
   taken-back : {cs text text1 text2 errors errors' label : List ℕ} (s : State) {next : ℕ} {x : Res Val} → Fall x → Wrote text text1 start next label
       → Gives as-value cs text1 errors (movedTo s next) x d text2 errors'
       → Gives (as-entry label) cs text errors (movedTo s start) x (record { what = d .what; state = movedTo (d .state) start }) text2 errors'
-  taken-back s f-stop p g = record { what = g .what; wrote = back («then» p (g .wrote)); noted = g .noted; chosen = g .chosen }
+  taken-back s f-stop p g = record { what = g .what; wrote = g .wrote ∙ p .long; noted = g .noted; chosen = g .chosen }
   taken-back s f-failed p g = record { what = g .what; wrote = back («then» p (g .wrote)); noted = g .noted; chosen = g .chosen }
 
   pub settle-fails : {f : Failure} {m : State} → d .what ≡ Fails f → m ≡ movedTo (d .state) start

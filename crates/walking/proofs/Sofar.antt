@@ -70,11 +70,16 @@ lost-is k log f-stop = f-stop
 lost-is k log f-failed = f-failed
 
 lose : {A B : Type 0} {U : View B} (W : View A) {f : Res B} (k : B → M A) (log : Log) {cs t₀ t t' e₀ e e' : List ℕ} {s s' : State} {d : Done}
-    → Wrote e₀ e (s .errs) (s' .errs) (words log) → Gives U cs t e s' f d t' e' → Fall f → Wrote t₀ t' (s .at) (s .at) []
+    → Wrote e₀ e (s .errs) (s' .errs) (words log) → Gives U cs t e s' f d t' e' → Fall f → {out : List ℕ} → Wrote t₀ t (s .at) (s' .at) out
     → Gives W cs t₀ e₀ s (after log (onward f k)) (record { what = d .what; state = movedTo (d .state) (s .at) }) t' e'
 unfolding onward after
-lose W k log n q f-stop w = record { what = q .what; wrote = w; noted = rw noted-append («then» n (q .noted)); chosen = refl }
-lose W k log n q f-failed w = record { what = q .what; wrote = w; noted = rw noted-append («then» n (q .noted)); chosen = q .chosen }
+lose W k log n q f-stop w = record { what = q .what; wrote = q .wrote ∙ w .long; noted = rw noted-append («then» n (q .noted)); chosen = refl }
+lose W k log n q f-failed w = record {
+  what = q .what;
+  wrote = back («then» w (q .wrote));
+  noted = rw noted-append («then» n (q .noted));
+  chosen = q .chosen;
+}
 
 -- ---- From the beginning to the end
 
@@ -147,12 +152,12 @@ module _ (cs : Choices) {A : Type 0} where
     unfolding _>>=_
     lost-fall f = rw (g .came) (lost-is k (g .log) f)
 
-    -- It came to none, and so the whole has none: the text goes back to where the whole began.
-    module _ (f : Fall (m (drop (s' .choice) cs))) {t₀ : List ℕ} {s : State} {b : ℕ} {out : List ℕ} (z : s .errs ≡ a₀)
-        (w : Wrote t₀ t' (s .at) b out) where
+    -- It came to none, and so the whole has none: the text that was written before the call goes back to where the whole began.
+    module _ (f : Fall (m (drop (s' .choice) cs))) {t₀ : List ℕ} {s : State} {out : List ℕ} (z : s .errs ≡ a₀)
+        (w : Wrote t₀ t (s .at) (s' .at) out) where
       lost-whole : (W : View A) → Gives W cs t₀ e₀ s x (record { what = d .what; state = movedTo (d .state) (s .at) }) t' e'
       unfolding _>>=_
-      lost-whole W = rw (g .came) (lose W k (g .log) (rw z (g .noted)) q f (back w))
+      lost-whole W = rw (g .came) (lose W k (g .log) (rw z (g .noted)) q f w)
 
       pub so-lost : {C : Type 0} {W : View C} {y : Res C} → Rides x y
           → Gives W cs t₀ e₀ s y (record { what = d .what; state = movedTo (d .state) (s .at) }) t' e'

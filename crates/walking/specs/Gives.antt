@@ -3,7 +3,7 @@
 use mathlib.Core.Path.{_≡_}
 use mathlib.Core.List.{List, [], _++_}
 use Prim.Native.Nat.{ℕ}
-use lib.ListN.{drop}
+use lib.ListN.{length, drop}
 use Rattle.writing.specs.Wrote.{Wrote}
 use Rattle.graphql.specs.Run.{Reach, here, pastList, Log, Choices, Res, stop, failed, done}
 use Rattle.graphql.specs.Data.{Data, nulled, leaf, list, object, Val, absent, val, printData}
@@ -62,10 +62,11 @@ module _ {A : Type 0} where
   answerOf U (failed r log c) = Fails (reachOf r)
   answerOf U (done a log c) = Placed (U .says a)
 
-  abbrev pub textOf : View A → Res A → List ℕ
-  textOf U (stop code log) = []
-  textOf U (failed r log c) = []
-  textOf U (done a log c) = U .show a
+  -- what was done to the text: where the run stopped it is nobody's, and only as long as it was
+  abbrev pub TextOf : View A → Res A → (text text' : List ℕ) (at at' : ℕ) → Type 0
+  TextOf U (stop code log) text text' at at' = length text' ≡ length text
+  TextOf U (failed r log c) text text' at at' = Wrote text text' at at' []
+  TextOf U (done a log c) text text' at at' = Wrote text text' at at' (U .show a)
 
   abbrev pub logOf : Res A → Log
   logOf (stop code log) = log
@@ -85,6 +86,6 @@ noted log = wordsOf (recordsOf log)
 -- The call came to x: from the state `s` and these buffers to the end `d` and those.
 pub record Gives {A : Type 0} (U : View A) (cs text errors : List ℕ) (s : State) (x : Res A) (d : Done) (text' errors' : List ℕ) : Type 0 where
   pub what : d .what ≡ answerOf U x
-  pub wrote : Wrote text text' (s .at) (d .state .at) (textOf U x)
+  pub wrote : TextOf U x text text' (s .at) (d .state .at)
   pub noted : Wrote errors errors' (s .errs) (d .state .errs) (noted (logOf x))
   pub chosen : drop (d .state .choice) cs ≡ leftOf (drop (d .state .choice) cs) x

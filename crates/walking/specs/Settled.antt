@@ -3,6 +3,7 @@ use mathlib.Core.Path.{_≡_}
 use mathlib.Core.Bool.{Bool, true, false}
 use mathlib.Core.List.{List}
 use Prim.Native.Nat.{ℕ}
+use lib.ListN.{length}
 use Rattle.writing.specs.Wrote.{Wrote, Writes}
 use Rattle.graphql.specs.Run.{ErrorRecord, Res, caught}
 use Rattle.graphql.specs.Data.{nulled, Val, val}
@@ -32,6 +33,7 @@ settled false x = caught (val nulled) x
 -- null is written where a value failed that may be null, whatever was done before
 pub record Nullifies (nonNull : Bool) (d : Done) (text : List ℕ) (r : Done) (text' : List ℕ) : Type 0 where
   pub level : r .state .top ≡ d .state .top
+  pub long : length text' ≡ length text
   pub nullifies : (cs before errors errors' : List ℕ) (s : State) (x : Res Val)
       → Gives as-value cs before errors s x d text errors' → Gives as-value cs before errors s (settled nonNull x) r text' errors'
 
