@@ -233,6 +233,12 @@ module _ (pool names refs types fields nodes literals variables arguments given 
       variable-stands none q = default-stands (argumentAt arguments row .default) q
       variable-stands (some v) q = found-valued (variableValue pool nodes variables v) (no-error _ error.NullArgument _ q)
 
+-- a form that is none of a variable
+no-variable : (f : Form) → OneOf (0 ∷ 2 ∷ []) (tagOf form-type f) → (x : ℕ) → formMeant f ≡ variable x → ⊥
+no-variable form.Null o x e = let z : _≡_ {A = ℕ} 0 1 = cc in omega arith
+no-variable (form.Variable y) o x e = miss (0 ∷ 2 ∷ []) 1 tt o
+no-variable (form.Shaped s) o x e = let z : _≡_ {A = ℕ} 0 1 = cc in omega arith
+
 -- ---- all of a field's
 
 module _ (arguments given literals variables : List ℕ) (definitions written : Range) (name : ℕ) where
@@ -307,10 +313,14 @@ module _ (arguments given literals variables : List ℕ) (definitions written : 
           stands = λ pool names refs types fields nodes p args q.
               let c = own-of d h pool names refs types fields nodes p args q in
               rw (c .is, a)
-              (found-valued pool names refs types fields nodes literals variables arguments given p row (c .own) name (c .labelled)
-              (coerceArgumentValue pool names refs types fields nodes literals variables mostOpen p (argumentAt arguments row .ty) (value .literal))
-              (go pool names refs types fields nodes p (c .own) f o
-              (rw (c .labelled, is-found (givenNamed given name (rowsIn written)) g n, ← v, l .is) at (c .here))));
+              (record {
+                found = found-valued pool names refs types fields nodes literals variables arguments given p row (c .own) name (c .labelled)
+                    (coerceArgumentValue pool names refs types fields nodes literals variables mostOpen p (argumentAt arguments row .ty)
+                    (value .literal))
+                    (go pool names refs types fields nodes p (c .own) f o
+                    (rw (c .labelled, is-found (givenNamed given name (rowsIn written)) g n, ← v, l .is) at (c .here)));
+                shaped = λ x i. no-variable f o x (rw (l .is) at i);
+              });
         }
           where
             go : (pool names refs types fields nodes : List ℕ) (p : Path) (own : Arguments) (f : Form) → OneOf (0 ∷ 2 ∷ []) (tagOf form-type f)

@@ -1,10 +1,9 @@
 -- A literal at a type, way by way: what a function knows where it returns is what the definition says there. Assumes nothing.
 use mathlib.Core.Path.{_≡_, refl}
-use mathlib.Core.Bool.{Bool, true, false}
+use mathlib.Core.Bool.{Bool}
 use mathlib.Core.List.{List, [], _∷_}
 use mathlib.Core.Option.{Option, none, some}
 use Prim.Native.Nat.{ℕ, zero, suc, _+_, _≤_}
-use native.Mathlib.Omega.{arith}
 use types.Run.{OneOf, miss}
 use denote.Enum.Declared.{tagOf}
 use Rattle.rows.specs.Limits.{mostLiterals, mostFields}
@@ -15,7 +14,6 @@ use Rattle.rows.specs.declared.layout.Optional.{Optional}
 use Rattle.rows.specs.declared.layout.Optional.the-variants.{Absent, Row}
 use Rattle.rows.specs.declared.schema.TypeRef.{TypeRef}
 use Rattle.rows.specs.declared.schema.TypeRef.the-variants as ref
-use Rattle.rows.specs.declared.schema.TypeKind.{TypeKind}
 use Rattle.rows.specs.declared.schema.TypeKind.the-variants as kind
 use Rattle.rows.specs.declared.schema.TypeDef.{TypeDef}
 use Rattle.rows.proofs.schema.TypeKind.{the-type as kind-type}
@@ -35,7 +33,7 @@ use Rattle.input_coercion.specs.declared.check.Form.{Form}
 use Rattle.input_coercion.specs.declared.check.Form.the-variants as form
 use Rattle.input_coercion.proofs.check.Shape.{the-type as shape-type}
 use Rattle.input_coercion.proofs.Leaves.{not-found, is-found}
-use Rattle.input_coercion.proofs.Walk.{form-shaped, listable, keyed-within, few-declared}
+use Rattle.input_coercion.proofs.Walk.{form-shaped, listable, keyed-within, few-declared, otherKinds, other-kind}
 use Rattle.values.specs.Literals.{LiteralsParted}
 use Rattle.values.specs.declared.node.Put.{Put}
 use Rattle.values.specs.declared.node.Put.the-variants.{At, TooFar}
@@ -51,21 +49,6 @@ literals-parted w = record {
   ofList = λ row rows e. w .parted .lists row rows (rw e);
   ofObject = λ row rows e. w .parted .objects row rows (rw e);
 }
-
--- ---- kinds of types
-
-abbrev otherKinds : List ℕ
-otherKinds = 0 ∷ 1 ∷ 2 ∷ 3 ∷ 4 ∷ 6 ∷ []
-
-other-kind : (k : TypeKind) → OneOf otherKinds (tagOf kind-type k) → isInputObject k ≡ false
-unfolding isInputObject
-other-kind kind.Scalar o = refl
-other-kind kind.Enum o = refl
-other-kind kind.Object o = refl
-other-kind kind.Interface o = refl
-other-kind kind.Union o = refl
-other-kind kind.InputObject o = absurd (miss otherKinds 5 tt o)
-other-kind kind.Unknown o = refl
 
 abbrev unkeyed : List ℕ
 unkeyed = 0 ∷ 1 ∷ []
@@ -153,7 +136,7 @@ module _ (pool names refs types fields nodes literals variables : List ℕ) (roo
 
   -- ---- a literal
 
-  by-form : (ty row : ℕ) (p : Path)
+  pub by-form : (ty row : ℕ) (p : Path)
       → ofValue pool names refs types fields nodes literals variables room ty row p
       ≡ coerceLiteral pool names refs types fields nodes literals variables room (deeper p) p ty row (literalForm (literalAt literals row))
   unfolding ofValue coerceArgumentValue inside

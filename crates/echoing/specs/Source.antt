@@ -7,7 +7,7 @@ use lib.Dec.{eqb}
 use Rattle.rows.specs.Layout.{nodeWidth}
 use Rattle.rows.specs.Rows.{rowsOf}
 use Rattle.rows.specs.Schema.{argumentAt}
-use Rattle.rows.specs.Json.{variableAt}
+use Rattle.rows.specs.Json.{literalAt, variableAt}
 use Rattle.rows.specs.declared.layout.Range.{Range}
 use Rattle.rows.specs.declared.layout.Optional.{Optional}
 use Rattle.rows.specs.declared.layout.Optional.the-variants.{Absent, Row}
@@ -15,7 +15,7 @@ use Rattle.codes.specs.Outcome.{mostOpen}
 use Rattle.graphql.specs.Run.{Path, M}
 use Rattle.graphql.specs.Json.{Json}
 use Rattle.graphql.specs.Lookup.{rowsIn, find}
-use Rattle.graphql.specs.Values.{nodeValue, partByPart}
+use Rattle.graphql.specs.Values.{nodeValue, partByPart, variable, literalForm}
 use Rattle.graphql.specs.Coerce.{Arguments, argumentNamed, coerceArgumentValue, coerceArgumentValues}
 use Rattle.echoing.specs.Echo.{Comes}
 use Rattle.echoing.specs.declared.echo.Source.{Source}
@@ -44,12 +44,18 @@ pub record Found (m : M Json) (found : Option Json) : Type 0 where
   pub is : found ≡ some value
   pub comes : Comes m value
 
+-- the same of a literal, which is no variable: the source of a variable is its node
+pub record Given (literals : List ℕ) (row : ℕ) (m : M Json) (o : Option Json) : Type 0 where
+  pub found : Found m o
+  pub shaped : (name : ℕ) → literalForm (literalAt literals row) ≡ variable name → ⊥
+
 module _ (pool names refs types fields nodes literals variables : List ℕ) (p : Path) where
   -- what was found is the value of the source; where there is none, nothing was
   abbrev pub Stands : Source → Option Json → Type 0
   Stands source.Absent found = found ≡ none
   Stands (source.Node row) found = Found (nodeValue pool nodes (suc (rowsOf nodes nodeWidth)) row) found
-  Stands (source.Literal ty row) found = Found (coerceArgumentValue pool names refs types fields nodes literals variables mostOpen p ty row) found
+  Stands (source.Literal ty row) found =
+      Given literals row (coerceArgumentValue pool names refs types fields nodes literals variables mostOpen p ty row) found
   Stands (source.Default row) found = Found (partByPart pool names literals mostOpen row) found
 
 -- whatever stands in the tables that it does not read, if the arguments can be coerced

@@ -114,7 +114,7 @@ pub fn argument_source(
 }
 
 // A literal that converts part by part and has been checked.
-fn put_checked_literal(
+pub fn put_checked_literal(
     pool: &[u8],
     names: &[u32],
     literals: &[u32],

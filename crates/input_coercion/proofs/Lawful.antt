@@ -1,4 +1,4 @@
--- In lawful tables the parts of a literal and the fields of a type are few, and a variable's value is there: the parts of a node come later than it,
+-- In lawful tables the parts of a literal and the fields of a type are few, and a node's value is there: the parts of a node come later than it,
 -- so that no value is deeper than there are nodes. Assumes nothing.
 use mathlib.Core.Path.{_≡_}
 use mathlib.Core.Bool.{true, false, _&&_, _||_}
@@ -175,9 +175,13 @@ module _ (T : Tables) (h : lawful T ≡ true) where
           node-valued pool (T .nodes) (suc room) (λ part. nodeValue pool (T .nodes) (suc room) part) (T .pool) (nodeCount T) row below (nodeAt (T .nodes) row)
           (node-row T h row (omega arith))
 
+  -- each node has a value, a variable's among them
+  pub valued : (pool : List ℕ) (row : ℕ) → Valued (nodeValue pool (T .nodes) (suc (nodeCount T)) row)
+  valued pool row = value-there pool (nodeCount T) row (omega arith)
+
   valuable : Valuable (T .nodes) (T .variables)
   unfolding variableValue
-  valuable = record { values = λ pool v. value-there pool (nodeCount T) (variableAt (T .variables) v .node) (omega arith) }
+  valuable = record { values = λ pool v. valued pool (variableAt (T .variables) v .node) }
 
   pub coercible : Coercible (T .types) (T .nodes) (T .literals) (T .variables)
   coercible = record { parted = parted; valuable = valuable; few = fields-few }

@@ -73,10 +73,10 @@ one-unknown (some key) h = (key, refl)
 
 -- ---- kinds of types
 
-abbrev otherKinds : List ℕ
+abbrev pub otherKinds : List ℕ
 otherKinds = 0 ∷ 1 ∷ 2 ∷ 3 ∷ 4 ∷ 6 ∷ []
 
-other-kind : (k : TypeKind) → OneOf otherKinds (tagOf kind-type k) → isInputObject k ≡ false
+pub other-kind : (k : TypeKind) → OneOf otherKinds (tagOf kind-type k) → isInputObject k ≡ false
 unfolding isInputObject
 other-kind kind.Scalar o = refl
 other-kind kind.Enum o = refl
