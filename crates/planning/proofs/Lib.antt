@@ -1,3 +1,5 @@
+pub mod Alone
+pub mod Definitions
 pub mod Expecting
 pub mod Found
 pub mod Grouped

@@ -72,6 +72,7 @@ module _ {plans plans' : List ℕ} {top : ℕ} (p : Kept plans (8 * top) plans')
   plan-on Q {plan} top' l m a = record {
     ends = rw (end-on plan (a .ends)) (omega (arith, a .ends));
     there = m;
+    few = rw (groups-on plan (a .ends)) (a .few);
     collected = λ k. a .collected k ∙ rw (groups-at-on plan (a .ends) (Q .tables .selections));
     rows = λ group h. row-on (plan + 1 + group) (8 * top) p (omega (arith, a .ends, rw (groups-on plan (a .ends)) at h)) (a .rows group (rw
         (groups-on plan (a .ends)) at h));

@@ -139,6 +139,7 @@ module _ (Q : Request) where
   pub record PlanOf (plans : List ℕ) (top plan object : ℕ) (set : List ℕ) : Type 0 where
     pub ends : planEnd plans plan ≤ top
     pub there : 8 * top ≤ length plans
+    pub few : groupCount plans plan ≤ mostCollected
     pub collected : (k : Choices)
         → collect (T .types) (T .members) (T .sets) (T .selections) (T .fragments) (T .variables) (T .nodes) object set k
         ≡ done (groupsAt (T .selections) plans plan) [] k
@@ -326,3 +327,28 @@ pub record PlansFor (refs types members fields sets selections fragments nodes v
   pub small-plan : (made top' : ℕ) → r ≡ planned.At made top' → made < mostWords
   pub comes : (Q : Request) → Lent refs types members fields sets selections fragments nodes variables Q → Standing Q plans top
       → Planning Q (mergeSelectionSets Q (membersOf plans plan group)) plans top object r plans'
+
+-- ---- A plan in a store of its own
+
+-- the store has room for it
+pub record Storable (refs types fields sets selections fragments store : List ℕ) (object : ℕ) : Type 0 where
+  pub fitting : Fitting refs types fields selections
+  pub collectable : (list : List ℕ) → length list ≡ mostCollected → Collectable types sets fragments list
+  pub known : object < mostTypes
+  pub room : 2048 ≤ length store
+  pub small : length store ≤ mostWords
+
+-- the plan of these selections, or why they cannot be collected
+pub record PlansAlone (refs types members fields sets selections fragments nodes variables : List ℕ) (set : Request → List ℕ) (object : ℕ)
+    (store : List ℕ) (r : Planned) (store' : List ℕ) : Type 0 where
+  pub sized : length store' ≡ length store
+  pub roomy : r ≡ planned.NoRoom → ⊥
+  pub comes : (Q : Request) → Lent refs types members fields sets selections fragments nodes variables Q → Planning Q (set Q) store 0 object r store'
+
+-- the operation's selections
+abbrev pub operationOf : Request → List ℕ
+operationOf Q = selectionsOf (Q .tables .sets) 0
+
+-- those beneath a group of another store's plan
+abbrev pub beneathGroup : (plans : List ℕ) (plan group : ℕ) → Request → List ℕ
+beneathGroup plans plan group Q = mergeSelectionSets Q (membersOf plans plan group)

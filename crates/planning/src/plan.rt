@@ -5,8 +5,9 @@ ghost use Prim.Native.Nat.{_+_, _*_, _%_, _≤_, _<_};
 ghost use lib.Dec.{eqb, ltb};
 ghost use lib.ListN.{length};
 ghost use Rattle.rows.specs.Limits.{mostTypes};
-ghost use Rattle.planning.specs.Plans.{wordAt, mostWords, PutHead, Puttable, PutPlan, PlansFor, Plannable};
+ghost use Rattle.planning.specs.Plans.{wordAt, mostWords, PutHead, Puttable, PutPlan, Lookable, PlansFor, Plannable, Storable, operationOf, beneathGroup, PlansAlone};
 use crate::beneath::collect_group;
+use crate::beneath::collect_operation;
 use crate::groups::put_fields;
 use crate::groups::put_groups;
 use crate::layout::HEAD;
@@ -94,7 +95,7 @@ fn put_plan(
 }
 
 // The plan of a set by itself, at the beginning of a store: the operation's, or one that found no room.
-pub fn plan_set(
+fn plan_set(
     type_refs: &[u32],
     types: &[u32],
     fields: &[u32],
@@ -259,4 +260,100 @@ pub fn plan_for(
     };
     hints[slot] = made as u32;
     planned
+}
+
+// The plan of the operation's own set, at the beginning of a store.
+pub fn plan_operation(
+    type_refs: &[u32],
+    types: &[u32],
+    members: &[u32],
+    fields: &[u32],
+    sets: &[u32],
+    selections: &[u32],
+    fragments: &[u32],
+    nodes: &[u32],
+    variables: &[u32],
+    store: &mut [u16],
+    object: u32,
+) -> Planned
+    requires { ⌜ Storable (now «type_refs») (now types) (now fields) (now sets) (now selections) (now fragments) (now store) object ⌝ }
+    ensures { λ r. ⌜ PlansAlone (now («type_refs» .entry)) (now (types .entry)) (now (members .entry)) (now (fields .entry)) (now (sets .entry)) (now (selections .entry)) (now (fragments .entry)) (now (nodes .entry)) (now (variables .entry)) operationOf object (now (store .entry)) r (now (store .exit)) ⌝ }
+{
+    let mut list = [0u16; 128];
+    let collecting = collect_operation(
+        types,
+        members,
+        sets,
+        selections,
+        fragments,
+        nodes,
+        variables,
+        &mut list,
+        object,
+    );
+    match collecting {
+        Collecting::TooFar => Planned::TooFar,
+        Collecting::TooManyFields => Planned::TooManyFields,
+        Collecting::On(gathered) => plan_set(
+            type_refs,
+            types,
+            fields,
+            selections,
+            store,
+            &list,
+            gathered.count,
+            object,
+        ),
+    }
+}
+
+// The plan for a group of a plan and an object type, at the beginning of a store of its own.
+pub fn plan_apart(
+    type_refs: &[u32],
+    types: &[u32],
+    members: &[u32],
+    fields: &[u32],
+    sets: &[u32],
+    selections: &[u32],
+    fragments: &[u32],
+    nodes: &[u32],
+    variables: &[u32],
+    plans: &[u16],
+    store: &mut [u16],
+    plan: usize,
+    group: usize,
+    object: u32,
+) -> Planned
+    requires { ⌜ Storable (now «type_refs») (now types) (now fields) (now sets) (now selections) (now fragments) (now store) object × Lookable (now plans) plan group ⌝ }
+    ensures { λ r. ⌜ PlansAlone (now («type_refs» .entry)) (now (types .entry)) (now (members .entry)) (now (fields .entry)) (now (sets .entry)) (now (selections .entry)) (now (fragments .entry)) (now (nodes .entry)) (now (variables .entry)) (beneathGroup (now (plans .entry)) plan group) object (now (store .entry)) r (now (store .exit)) ⌝ }
+{
+    let mut list = [0u16; 128];
+    let collecting = collect_group(
+        types,
+        members,
+        sets,
+        selections,
+        fragments,
+        nodes,
+        variables,
+        plans,
+        &mut list,
+        object,
+        plan,
+        group,
+    );
+    match collecting {
+        Collecting::TooFar => Planned::TooFar,
+        Collecting::TooManyFields => Planned::TooManyFields,
+        Collecting::On(gathered) => plan_set(
+            type_refs,
+            types,
+            fields,
+            selections,
+            store,
+            &list,
+            gathered.count,
+            object,
+        ),
+    }
 }

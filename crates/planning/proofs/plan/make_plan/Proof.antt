@@ -5,7 +5,7 @@ use Rattle.planning.proofs.plan.make_plan.Statement.{statement}
 use Rattle.planning.proofs.plan.make_plan.Tie as tie
 
 collect-group-requires : tie.Need-collect-group-requires
-collect-group-requires c κs = let asked = c .before .before .before .before .before .before .before .before .before .before .before .before .pre .0 in (asked .collectable _ (search needs), looking-there asked)
+collect-group-requires c κs = let asked = c .before .before .before .before .before .before .before .before .before .before .before .before .pre .0 in (search (asked .collectable, needs), looking-there asked)
 
 put-plan-requires : tie.Need-put-plan-requires
 put-plan-requires c κs =
