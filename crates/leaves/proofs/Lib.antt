@@ -1,0 +1,4 @@
+pub mod Coerced
+pub mod Sorts
+pub mod Strings
+pub mod Puts

@@ -1,0 +1,3 @@
+-- What a leaf stands for, and what the functions that read and write it ensure.
+pub mod Leaves
+pub mod Literals
