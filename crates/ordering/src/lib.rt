@@ -1,0 +1,2 @@
+// The order in which the groups of a set are taken, and where each entry goes.
+pub mod order;
