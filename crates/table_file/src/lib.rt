@@ -16,6 +16,8 @@ mod tokens;
 pub use lines::Contents;
 pub use lines::line_of_row;
 pub use lines::read;
+pub use numbers::Number;
+pub use numbers::word_number;
 pub use store::pool_bytes;
 pub use store::root;
 pub use store::table;

@@ -63,7 +63,7 @@ pub(crate) fn decimal(token: &[u8]) -> Number {
 }
 
 // The same, of a number that is a word.
-pub(crate) fn word_number(token: &[u8]) -> Number
+pub fn word_number(token: &[u8]) -> Number
     ensures { λ r. ⌜ r .value ≤ 4294967295 ⌝ }
 {
     let n = decimal(token);
