@@ -1,10 +1,10 @@
 // Why a file cannot be asked about, in words.
-use crate::lists::line;
-use crate::say;
 use crate::sentences::print_table;
 use table_file::fault::Fault;
 use table_file::layout::row_width;
 use verdict::file;
+use verdict::lists::line;
+use verdict::say;
 
 // What kept a file's text from being read.
 pub(crate) fn print_file_fault(why: file::Fault) {

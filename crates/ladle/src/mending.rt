@@ -1,11 +1,11 @@
 // Which words of a row are wrong: another number in the place of one would mend the row.
-use crate::say;
 use table_file::layout;
 use table_file::layout::Pool;
 use table_file::layout::Sizes;
 use table_file::layout::Words;
 use table_file::layout::row_start;
 use table_file::layout::row_width;
+use verdict::say;
 ghost use Prim.Native.Nat.{_<_};
 use rows::columns;
 use rulebook::broken::Broken;

@@ -1,12 +1,12 @@
 // The rules in words.
-use crate::lists::line;
-use crate::say;
 use rows::limits;
 use tables::rule::DocumentRule;
 use tables::rule::Rule;
 use tables::rule::SchemaRule;
 use tables::rule::SizeRule;
 use tables::rule::ValueRule;
+use verdict::lists::line;
+use verdict::say;
 
 pub(crate) fn print_table(table: usize) {
     say::words(line(
