@@ -1,7 +1,7 @@
 //! `bench [--seconds S] [NAME..]` times the static library beside plain Rust, in turns, on the workloads
 //! of these names, or on all: processor time of a call in microseconds, least and median, and how many
 //! times plain Rust's the library's are. `bench --list` says which workloads there are. It fails if one
-//! of the two refuses a workload. The library has no run yet: of runs, plain Rust's are timed alone.
+//! of the two refuses a workload, or if the two leave a run's buffers otherwise.
 
 use bench::timing::{in_turns, Call, Times};
 use bench::workloads::{Run, Workload, DEPTH_CHECKS, RUNS, TABLE_CHECKS};
@@ -115,12 +115,21 @@ fn depth_check(workload: &Workload, patience: Duration) -> Result<(), String> {
     Ok(())
 }
 
-/// A run of the library: tables, choices, text, error records.
-type LibraryRun = fn(&ladlehedge::Tables<'_>, &[u32], &mut [u8], &mut [u32]) -> Reported;
-
-/// HOOK THE LIBRARY'S RUN IN HERE: the one place to change once `ladlehedge` has it. With `None`, plain
-/// Rust is timed alone; with a run, the two are held against each other and timed in turns.
-const LIBRARY_RUN: Option<LibraryRun> = None;
+/// A run of the library, as plain Rust reports it.
+fn library_run(
+    tables: &ladlehedge::Tables<'_>,
+    choices: &[u32],
+    text: &mut [u8],
+    errors: &mut [u32],
+) -> Reported {
+    match ladlehedge::run_ordered(tables, choices, text, errors) {
+        Ok(run) => {
+            let (bytes, words) = (run.bytes().len(), run.words().len());
+            Reported { code: 0, bytes, words, records: run.errors().len() }
+        }
+        Err(refusal) => Reported { code: refusal.code(), ..Reported::default() },
+    }
+}
 
 /// What a run leaves in its buffers.
 struct Buffers {
@@ -135,37 +144,27 @@ fn time_run(run: &Run, patience: Duration) -> Result<(), String> {
     let plain_run = |Buffers { text, errors }: &mut Buffers| {
         plain::run_ordered(black_box(&tables), black_box(&choices), text, errors)
     };
-    let library_run = LIBRARY_RUN.map(|run| {
-        let (lent, choices) = (&lent, &choices);
-        move |Buffers { text, errors }: &mut Buffers| {
-            run(black_box(lent), black_box(choices), text, errors)
-        }
-    });
-    let mut of_plain = buffers();
+    let library_run = |Buffers { text, errors }: &mut Buffers| {
+        library_run(black_box(&lent), black_box(&choices), text, errors)
+    };
+    let (mut of_plain, mut of_library) = (buffers(), buffers());
     let reported = plain_run(&mut of_plain);
     if (reported.code, reported.records) != (0, run.records) {
         return Err(format!("{}: plain {reported:?}", run.name));
     }
-    if let Some(library_run) = &library_run {
-        let mut of_library = buffers();
-        let of_both = (reported, library_run(&mut of_library));
-        let same = of_plain.text == of_library.text && of_plain.errors == of_library.errors;
-        if of_both.0 != of_both.1 || !same {
-            return Err(format!("{}: plain and library {of_both:?}", run.name));
-        }
+    let of_both = (reported, library_run(&mut of_library));
+    let same = of_plain.text == of_library.text && of_plain.errors == of_library.errors;
+    if of_both.0 != of_both.1 || !same {
+        return Err(format!("{}: plain and library {of_both:?}", run.name));
     }
     let reused = RefCell::new(of_plain);
     let plain = || {
         black_box(plain_run(&mut reused.borrow_mut()));
     };
-    let library = library_run.map(|library_run| {
-        let reused = &reused;
-        move || {
-            black_box(library_run(&mut reused.borrow_mut()));
-        }
-    });
-    let library = library.as_ref().map(|library| library as Call<'_>);
-    report(run.name, 1, &[library, Some(&plain)], patience);
+    let library = || {
+        black_box(library_run(&mut reused.borrow_mut()));
+    };
+    report(run.name, 1, &[Some(&library), Some(&plain)], patience);
     Ok(())
 }
 

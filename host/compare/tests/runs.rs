@@ -1,12 +1,12 @@
 //! Plain Rust's runs and the reading agree: on random tables, and on the tables that are timed.
 
-use compare::runs::{runs, Tally};
+use compare::runs::{plain_run, runs, Tally};
 use generate::{full, ordinary};
 use tables::Tables;
 
 #[test]
 fn on_random_tables() {
-    let tally = runs(8_000_000..8_000_400);
+    let tally = runs(plain_run, 8_000_000..8_000_400);
     assert!(tally.differences.is_empty(), "{}", tally.differences.join("\n"));
     for code in 0..=7 {
         let count: u64 = tally.codes.get(&code).map_or(0, |counts| counts.iter().sum());
@@ -40,7 +40,7 @@ fn timed() -> Vec<(&'static str, Tables, usize)> {
 fn on_timed_tables() {
     let choices: Vec<u32> = (0..4_096).map(|number: u32| number.wrapping_mul(97)).collect();
     for (what, tables, records) in timed() {
-        let mut tally = Tally::default();
+        let mut tally = Tally::new(plain_run);
         let reported = tally.compare_sizes(0, &tables, &[]).expect("it is not much work");
         assert_eq!((reported.code, reported.records), (0, records), "{what}");
         tally.compare_sizes(1, &tables, &choices);

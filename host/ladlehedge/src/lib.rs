@@ -4,13 +4,15 @@
 //! * [`Tables`]: what every entry is lent, as slices. docs/TABLES.md says what the words mean.
 //! * [`table_check`]: whether the tables are lawful.
 //! * [`depth_check`]: how deep the operation nests lists.
+//! * [`run`], [`run_ordered`]: the operation run into two lent buffers, in document order or in a given
+//!   one. A [`Run`] has the data's text and the error records, each with its path by name.
 //!
-//! Any bytes and any words may be lent, lawful or not. An entry keeps nothing, writes nowhere, has no
-//! state and takes nothing from a heap; several threads may call at once. It ends on every input, though
-//! not always soon: docs/LINKING.md says which tables take long.
+//! Any bytes and any words may be lent, lawful or not. An entry keeps nothing, writes nowhere but to the
+//! buffers of a run, has no state and takes nothing from a heap; several threads may call at once. It
+//! ends on every input, though not always soon: docs/LINKING.md says which tables take long.
 //!
 //! ```
-//! use ladlehedge::{depth_check, table_check, Refusal, Tables};
+//! use ladlehedge::{depth_check, run, table_check, Refusal, Tables};
 //!
 //! // The twelve reserved names and one type, `Query`, one behind the other in the pool.
 //! let texts = [
@@ -34,9 +36,19 @@
 //! assert_eq!(table_check(&tables), Ok(()));
 //! assert_eq!(depth_check(&tables), Ok(0));
 //!
+//! let (mut text, mut errors) = ([0; 64], [0; 16]);
+//! let answer = run(&tables, &mut text, &mut errors)?;
+//! assert_eq!(answer.data(), "{}");
+//! assert_eq!(answer.errors().count(), 0);
+//!
 //! let no_such_root = Tables { root: 1, ..tables };
 //! assert_eq!(table_check(&no_such_root), Err(Refusal::Unlawful));
+//! # Ok::<(), Refusal>(())
 //! ```
+
+mod run;
+
+pub use run::{run, run_ordered, Errors, Path, Record, Run, Segment};
 
 use std::error::Error;
 use std::fmt;
@@ -96,10 +108,20 @@ impl<'a> Tables<'a> {
 #[derive(Debug, Clone, Copy, PartialEq, Eq, Hash)]
 #[non_exhaustive]
 pub enum Refusal {
-    /// Code 1: a table breaks a rule.
+    /// Code 1: a table breaks a rule; of a run, or a buffer or the choices are too long.
     Unlawful,
-    /// Code 3, of a depth check: 33 open sets are reached.
+    /// Code 2, of a run: a selection asks for `__schema` or `__type`.
+    AsksForSchema,
+    /// Code 3: a path over 32 segments, or a 33rd open container, fragment or set.
     TooFar,
+    /// Code 4, of a run: a 129th field is collected for one set.
+    TooManyFields,
+    /// Code 5, of a run: a variable inside a literal that converts part by part.
+    VariableInLiteral,
+    /// Code 6, of a run: the text buffer is too short for the data.
+    TextTooLong,
+    /// Code 7, of a run: the error buffer is too short for the error records.
+    RecordsTooLong,
     /// Code 8, of a depth check: too deep. The place is that of the field or of the spread.
     TooDeep { place: u32 },
 }
@@ -109,7 +131,12 @@ impl Refusal {
     pub fn code(self) -> u32 {
         match self {
             Refusal::Unlawful => 1,
+            Refusal::AsksForSchema => 2,
             Refusal::TooFar => 3,
+            Refusal::TooManyFields => 4,
+            Refusal::VariableInLiteral => 5,
+            Refusal::TextTooLong => 6,
+            Refusal::RecordsTooLong => 7,
             Refusal::TooDeep { .. } => 8,
         }
     }
@@ -118,8 +145,17 @@ impl Refusal {
 impl fmt::Display for Refusal {
     fn fmt(&self, f: &mut fmt::Formatter<'_>) -> fmt::Result {
         match self {
-            Refusal::Unlawful => f.write_str("a table breaks a rule"),
-            Refusal::TooFar => f.write_str("33 open sets are reached"),
+            Refusal::Unlawful => f.write_str("a table breaks a rule, or a buffer is too long"),
+            Refusal::AsksForSchema => f.write_str("a selection asks for __schema or __type"),
+            Refusal::TooFar => {
+                f.write_str("a path over 32 segments, or a 33rd open container, fragment or set")
+            }
+            Refusal::TooManyFields => f.write_str("a 129th field is collected for one set"),
+            Refusal::VariableInLiteral => {
+                f.write_str("a variable inside a literal that converts part by part")
+            }
+            Refusal::TextTooLong => f.write_str("the text buffer is too short"),
+            Refusal::RecordsTooLong => f.write_str("the error buffer is too short"),
             Refusal::TooDeep { place } => write!(f, "too deep, at place {place}"),
         }
     }
@@ -175,6 +211,26 @@ macro_rules! entries {
 entries! {
     fn ladlehedge_table_check();
     fn ladlehedge_depth_check(depth: *mut u32, place: *mut u32);
+    fn ladlehedge_run(
+        text: *mut u8,
+        text_length: usize,
+        errors: *mut u32,
+        errors_length: usize,
+        bytes: *mut u32,
+        words: *mut u32,
+        records: *mut u32
+    );
+    fn ladlehedge_run_ordered(
+        choices: *const u32,
+        choices_length: usize,
+        text: *mut u8,
+        text_length: usize,
+        errors: *mut u32,
+        errors_length: usize,
+        bytes: *mut u32,
+        words: *mut u32,
+        records: *mut u32
+    );
 }
 
 /// Calls an entry with the tables and its own arguments.
@@ -221,6 +277,7 @@ macro_rules! call {
         )
     }};
 }
+pub(crate) use call;
 
 /// The table check: an error, which is [`Refusal::Unlawful`], where a table breaks a rule.
 pub fn table_check(tables: &Tables<'_>) -> Result<(), Refusal> {

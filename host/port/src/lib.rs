@@ -1,14 +1,22 @@
 //! The port, through its static library, held against the judges.
 //!
-//! * [`table_check`], [`depth_check`]: the entries, for tables that are at hand as [`Tables`], with
-//!   answers as the judges give them.
-//! * [`compare`]: the table check held against [`tables::rules`], and plain Rust's beside it;
-//!   [`depths`]: the depth check held against the oracle and the reading.
+//! * [`table_check`], [`depth_check`], [`run`]: the entries, for tables that are at hand as [`Tables`],
+//!   with answers as the judges give them.
+//! * [`checks`]: the table check held against [`tables::rules`], and plain Rust's beside it;
+//!   [`depths`]: the depth check held against the oracle and the reading; [`runs`]: runs in document
+//!   order held against the same. Runs in a given order and other buffers: `compare::runs`, over [`run`].
+//! * [`orders`]: pairs of runs that differ in their choices alone.
+//! * [`hostile`]: runs of tables that break rules, over memory with a [`fence`] behind it.
 
-pub mod compare;
+pub mod checks;
 pub mod depths;
+pub mod fence;
+pub mod hostile;
+pub mod orders;
+pub mod runs;
 
 use ladlehedge::Refusal;
+use plain::Reported;
 use reading::{code, Depth};
 use tables::Tables;
 
@@ -31,5 +39,31 @@ pub fn depth_check(tables: &Tables) -> Depth {
             let place = if let Refusal::TooDeep { place } = refusal { place } else { 0 };
             Depth { code: refusal.code(), depth: 0, place }
         }
+    }
+}
+
+/// The port's run: in document order where there are no choices.
+pub fn run(tables: &Tables, choices: &[u32], text: &mut [u8], errors: &mut [u32]) -> Reported {
+    run_lent(&lent(tables), choices, text, errors)
+}
+
+/// The same, for tables that are lent.
+fn run_lent(
+    tables: &ladlehedge::Tables<'_>,
+    choices: &[u32],
+    text: &mut [u8],
+    errors: &mut [u32],
+) -> Reported {
+    let answer = if choices.is_empty() {
+        ladlehedge::run(tables, text, errors)
+    } else {
+        ladlehedge::run_ordered(tables, choices, text, errors)
+    };
+    match answer {
+        Ok(run) => {
+            let (bytes, words) = (run.bytes().len(), run.words().len());
+            Reported { code: code::ANSWERED, bytes, words, records: run.errors().len() }
+        }
+        Err(refusal) => Reported { code: refusal.code(), ..Reported::default() },
     }
 }

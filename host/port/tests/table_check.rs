@@ -1,7 +1,7 @@
 //! The port's table check, plain Rust's and the rules agree on some seeds; `port_check` asks about as
 //! many as one likes.
 
-use port::compare::table_checks;
+use port::checks::table_checks;
 use port::table_check;
 use reading::code::{ANSWERED, RULE};
 use tables::Tables;

@@ -18,6 +18,7 @@ mod value;
 mod walk;
 
 pub use depth::{depth, Depth};
+pub use walk::Seen;
 
 use tables::layout::{SCHEMA, TYPE};
 use tables::room::with_room;
@@ -64,14 +65,19 @@ pub struct Answer {
 }
 
 impl Answer {
-    fn refused(code: u32) -> Self {
-        Answer { code, data: String::new(), errors: Vec::new() }
+    fn refused(code: u32) -> (Self, Seen) {
+        (Answer { code, data: String::new(), errors: Vec::new() }, Seen::default())
     }
 }
 
 /// Runs the operation. `None` where it takes more work than a test has time for: answers may lead
 /// back to earlier ones and rows may be shared, so that 32 segments bound nothing.
 pub fn run(tables: &Tables, lent: Lent<'_>) -> Option<Answer> {
+    run_seen(tables, lent).map(|(answer, _)| answer)
+}
+
+/// The same, with what the run went through; that is nothing unless the code is 0.
+pub fn run_seen(tables: &Tables, lent: Lent<'_>) -> Option<(Answer, Seen)> {
     if rules::check(tables).is_err() {
         return Some(Answer::refused(code::RULE));
     }
@@ -81,14 +87,14 @@ pub fn run(tables: &Tables, lent: Lent<'_>) -> Option<Answer> {
     with_room(|| run_lawful(tables, lent))
 }
 
-fn run_lawful(tables: &Tables, lent: Lent<'_>) -> Option<Answer> {
+fn run_lawful(tables: &Tables, lent: Lent<'_>) -> Option<(Answer, Seen)> {
     let mut walk = walk::Walk::new(tables, lent.choices);
     let data = match walk.operation() {
         Ok(data) => data,
         Err(walk::Stop::Code(code)) => return Some(Answer::refused(code)),
         Err(walk::Stop::Work) => return None,
     };
-    let errors = walk.into_errors();
+    let (errors, seen) = walk.into_errors();
     if data.len() > lent.text_bytes {
         return Some(Answer::refused(code::TEXT_ROOM));
     }
@@ -96,7 +102,7 @@ fn run_lawful(tables: &Tables, lent: Lent<'_>) -> Option<Answer> {
     if words > lent.error_words {
         return Some(Answer::refused(code::ERROR_ROOM));
     }
-    Some(Answer { code: code::ANSWERED, data, errors })
+    Some((Answer { code: code::ANSWERED, data, errors }, seen))
 }
 
 fn asks_for_introspection(tables: &Tables) -> bool {

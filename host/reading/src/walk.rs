@@ -49,7 +49,19 @@ pub(crate) struct Walk<'t> {
     choices: std::slice::Iter<'t, u32>,
     path: Vec<Segment>,
     errors: Vec<ErrorRecord>,
+    seen: Seen,
     work_left: u64,
+}
+
+/// What a run went through that its answer does not tell.
+#[derive(Debug, Clone, Default)]
+pub struct Seen {
+    /// How many selection sets were given up because a field of theirs failed.
+    pub sets_given_up: u64,
+    /// How many items of lists were left out.
+    pub items_skipped: u64,
+    /// Where resolvers answered a leaf: what stands there or below is theirs.
+    pub leaves: Vec<Vec<Segment>>,
 }
 
 /// The field that is being completed: its attached type is looked at level by level, its merged
@@ -68,11 +80,12 @@ impl Completing<'_> {
 impl<'t> Walk<'t> {
     pub(crate) fn new(tables: &'t Tables, choices: &'t [u32]) -> Self {
         let (path, errors) = (Vec::new(), Vec::new());
-        Walk { tables, choices: choices.iter(), path, errors, work_left: WORK }
+        let seen = Seen::default();
+        Walk { tables, choices: choices.iter(), path, errors, seen, work_left: WORK }
     }
 
-    pub(crate) fn into_errors(self) -> Vec<ErrorRecord> {
-        self.errors
+    pub(crate) fn into_errors(self) -> (Vec<ErrorRecord>, Seen) {
+        (self.errors, self.seen)
     }
 
     pub(crate) fn work(&mut self, steps: u64) -> Result<(), Stop> {
@@ -137,7 +150,9 @@ impl<'t> Walk<'t> {
         while !left.is_empty() {
             let choice = self.choices.next().copied().unwrap_or(0) as usize;
             let taken = left.remove(choice % left.len());
-            entries[taken] = self.execute_group(object, answers, &groups[taken])?;
+            let done = self.execute_group(object, answers, &groups[taken]);
+            self.seen.sets_given_up += u64::from(matches!(done, Err(Failure::Up)));
+            entries[taken] = done?;
         }
         let present = groups.iter().zip(entries).filter_map(|(group, entry)| {
             let mut text = String::new();
@@ -231,7 +246,10 @@ impl<'t> Walk<'t> {
         match taken {
             Taken::Skip => return Ok(None),
             Taken::Leaf(Value::Null) if ty.non_null => return Err(self.fail(2, place)),
-            Taken::Leaf(Value::Null) => return Ok(Some("null".into())),
+            Taken::Leaf(Value::Null) => {
+                self.seen.leaves.push(self.path.clone());
+                return Ok(Some("null".into()));
+            }
             Taken::List(items) => return self.complete_list_value(type_ref, items, completing),
             Taken::Leaf(_) | Taken::Object { .. } => {}
         }
@@ -244,6 +262,7 @@ impl<'t> Walk<'t> {
             Taken::Leaf(value) => match self.leaf_error(ty, &value) {
                 Some(code) => Err(self.fail(code, place)),
                 None => {
+                    self.seen.leaves.push(self.path.clone());
                     let mut text = String::new();
                     value.write(&mut text);
                     Ok(Some(text))
@@ -281,7 +300,10 @@ impl<'t> Walk<'t> {
                 Ok(walk.complete_value(inner, taken, completing))
             })?;
             match nullify(inner_non_null, completed) {
-                Ok(text) => texts.extend(text),
+                Ok(text) => {
+                    self.seen.items_skipped += u64::from(text.is_none());
+                    texts.extend(text);
+                }
                 Err(failure) => return nullify(ty.non_null, Err(failure)),
             }
         }

@@ -2,7 +2,7 @@
 //! on, each in document order and in given orders, with buffers of several sizes. It prints the
 //! differences, and how many runs had which code. It fails if there is a difference.
 
-use compare::runs::runs;
+use compare::runs::{plain_run, runs};
 use std::process::ExitCode;
 use std::time::Instant;
 
@@ -14,18 +14,9 @@ fn main() -> ExitCode {
         return ExitCode::from(2);
     };
     let start = Instant::now();
-    let tally = runs(first..first.saturating_add(count));
-    for difference in &tally.differences {
-        println!("{difference}");
-    }
-    for (code, [in_document_order, in_a_given_order]) in &tally.codes {
-        println!("{in_document_order:9} code {code}, in document order");
-        println!("{in_a_given_order:9} code {code}, in a given order");
-    }
-    println!("{:9} runs compared, in {:.1} s", tally.compared(), start.elapsed().as_secs_f64());
-    println!("{:9} of them with error records", tally.with_records);
-    println!("{:9} more that are too much work", tally.too_much_work);
-    println!("{:9} differences", tally.differences.len());
+    let tally = runs(plain_run, first..first.saturating_add(count));
+    println!("{tally}");
+    println!("{:9.1} seconds", start.elapsed().as_secs_f64());
     if tally.differences.is_empty() {
         ExitCode::SUCCESS
     } else {

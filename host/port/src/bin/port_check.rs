@@ -2,7 +2,7 @@
 //! many seeds from the first on, each with its tables as made and spoiled. It prints the differences,
 //! and how many tables were asked about and refused. It fails if there is a difference.
 
-use port::compare::table_checks;
+use port::checks::table_checks;
 use std::process::ExitCode;
 use std::time::Instant;
 
