@@ -11,9 +11,6 @@ use Rattle.rows.specs.Names.{nameText}
 use Rattle.tokens.specs.Decimal.{decimal}
 use Rattle.writing.specs.Wrote.{Writes}
 use Rattle.writing.proofs.WritesLaws.{stay, same, «then»}
-use Rattle.tables.specs.Tables.{Tables}
-use Rattle.codes.specs.declared.report.Reported.{Reported}
-use Rattle.running.specs.Entries.{RanOrdered}
 use Rattle.telling.specs.Told.{toldSegment, toldBehind, toldBelow, toldPath}
 
 -- ---- the first words
@@ -93,10 +90,3 @@ pub path-told :
 path-told pool names s h first rest =
     let all : take (length s - 2) (drop 2 s) ≡ drop 2 s = take-all (length s - 2) (drop 2 s) (omega (arith, length-drop 2 s)) in
     same (sym (path-step pool names s h)) («then» first (same (ap (toldBelow pool names) all) rest))
-
--- ---- the tables of a run, by another name
-
-pub ran-same :
-    {T T' : Tables} (choices : List ℕ) {text errors : List ℕ} {t e : ℕ} {handed : Reported} → T ≡ T' → RanOrdered (record { tables = T }) choices t e handed text errors
-    → RanOrdered (record { tables = T' }) choices t e handed text errors
-ran-same choices e ran = rw e at ran

@@ -2,7 +2,6 @@
 ghost use mathlib.Core.Path.{_≡_};
 ghost use Rattle.graphql.specs.Report.{report};
 ghost use Rattle.verdict.specs.Held.{held};
-use crate::entries::run_ordered;
 use crate::lines::put_path;
 use crate::records;
 use crate::records::first_words;
@@ -17,6 +16,7 @@ use table_file::layout;
 use table_file::layout::Sizes;
 use table_file::pool_bytes;
 use table_file::table;
+use verdict::runs::run_by_choices;
 use verdict::say;
 
 // The first bytes; all of them, where there are fewer.
@@ -95,7 +95,7 @@ pub fn print_run(pool: &[u8], words: &[u32], sizes: Sizes, choices: &[u32], is_r
 {
     let mut text = [0u8; MOST_TEXT_BYTES];
     let mut errors = [0u32; MOST_ERROR_WORDS];
-    let reported = run_ordered(pool, words, sizes, choices, &mut text, &mut errors);
+    let reported = run_by_choices(pool, words, sizes, choices, &mut text, &mut errors);
     let data = first_bytes(&text, reported.bytes as usize);
     let records = first_words(&errors, reported.words as usize);
     if is_raw {
