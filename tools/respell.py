@@ -15,7 +15,7 @@ DECL = re.compile(r"^(\s*)((?:(?:pub|abbrev|unfoldable|infixr|infixl|data|record
 HEAD = {"use", "mod", "module", "unfolding", "let", "--", "elim", "in", "if", "then", "else", "rw", "open", "mutual", "where", "infixr", "infixl", "infix"}
 # names that a proof file of the older form makes for the goals of a function, and that are turned with the file
 MADE = re.compile(r"^(returns|invariant-|decreases-|loop-again|loop-init|loop-less|loop-done|μ|\+)|(-requires|-loop|-Inv-loop)(-\d+)?$|^(add|sub|mul|cast|part|part-is)-[a-z]*$")
-STD = set("take drop length append map reverse set get filter replicate sum min max".split())
+STD = set("and true false take drop length append map reverse set get filter replicate sum min max".split())
 # where two names would fall together, or one with a word of the library or of src/
 VARIABLES = {"object-rows": "object_rows"}
 FIXED = {"closed-in": "closed_in_lem", "set-row": "set_row_lem", "is-none": "is_none_lem"}

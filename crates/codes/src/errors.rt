@@ -3,7 +3,7 @@ ghost use Rattle.std.specs.Prelude.{◌≡◌};
 ghost use Rattle.codes.specs.Errors.{number_of, place_of};
 
 // What can go wrong with a field, in the order of document 01.
-#[derive(Drop)]
+#[derive(Clone, Copy)]
 pub enum FieldError {
     Resolver,
     NullForNonNull,
@@ -32,14 +32,14 @@ pub enum FieldError {
 }
 
 // The kind of place that an error record has.
-#[derive(Drop)]
+#[derive(Clone, Copy)]
 pub enum PlaceKind {
     FirstField,
     ArgumentDefinition,
     Literal,
 }
 
-#[derive(Drop)]
+#[derive(Clone, Copy)]
 pub struct ErrorCode {
     pub number: u32,
 }

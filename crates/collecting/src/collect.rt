@@ -15,14 +15,14 @@ use rows::layout::{Optional, Range};
 pub const MOST_COLLECTED: usize = 128;
 
 // What has been collected: the fragments visited, a bit for each row, and how many fields. The fields stand in a lent array.
-#[derive(Drop)]
+#[derive(Clone, Copy)]
 pub struct Gathered {
     pub visited: u64,
     pub count: usize,
 }
 
 // How a collection goes on, or stops: a 33rd fragment would be open, or a 129th field collected.
-#[derive(Drop)]
+#[derive(Clone, Copy)]
 pub enum Collecting {
     On(Gathered),
     TooFar,

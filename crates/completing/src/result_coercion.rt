@@ -28,13 +28,13 @@ const BOOLEAN: u32 = 4;
 
 const ID: u32 = 5;
 
-#[derive(Drop)]
+#[derive(Clone, Copy)]
 pub enum Verdict {
     Fits,
     Error(FieldError),
 }
 
-#[derive(Drop)]
+#[derive(Clone, Copy)]
 pub enum Typed {
     Type(u32),
     Error(FieldError),

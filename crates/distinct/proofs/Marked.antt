@@ -1,6 +1,6 @@
 -- How marks follow the numbers that are taken, and which sets are free after one more selection or fragment. Assumes nothing.
 use mathlib.Core.Path.{◌≡◌, refl, sym, ◌∙◌}
-use mathlib.Core.Bool.{Bool, true, false, not, ◌&&◌, and_true, and_assoc}
+use mathlib.Core.Bool.{Bool, true, false, not, ◌&&◌, and-true, and_assoc}
 use mathlib.Core.List.{List}
 use Prim.Native.Nat.{ℕ, ◌+◌, ◌≤◌, ◌<◌}
 use native.Mathlib.Nat.{zero-add}
@@ -18,7 +18,7 @@ use Rattle.rows.specs.Document.{fragment_at}
 use Rattle.rules.specs.Document.{owned_set, owns_other, owned_nowhere, selection_owns_alone, fragment_owns_alone}
 use Rattle.rows.specs.declared.layout.Optional.{Optional}
 use Rattle.rows.specs.declared.layout.Optional.TheVariants.{Absent, Row}
-use Rattle.rows.proofs.Every.{and_false, all_same}
+use Rattle.rows.proofs.Every.{and-false, all_same}
 use Rattle.distinct.specs.Marks.{Marked, free_of_selections, free_of_fragments}
 
 -- one number more is taken
@@ -31,9 +31,9 @@ marked_one free after marks word m h e =
     go n l true s =
         let w : n ≡ word = eqb-true n word s in
         let k : word < length marks = omega (arith, m.sized) in
-        rw (e n, s, w, get_or-set_same marks word 1 0 k) (sym (and_false (free word)))
+        rw (e n, s, w, get_or-set_same marks word 1 0 k) (sym (and-false (free word)))
     go n l false s =
-        rw (e n, s, get_or-set_other marks word n 1 0 (eqb-false n word s), m.marked n l) (sym (and_true (free n)))
+        rw (e n, s, get_or-set_other marks word n 1 0 (eqb-false n word s), m.marked n l) (sym (and-true (free n)))
 
 -- what is taken has no mark of its own
 pub marked_same : (free after : ℕ → Bool) (marks : List ℕ) → Marked free marks → ((n : ℕ) → n < 4096 → after n ≡ free n)
@@ -48,7 +48,7 @@ module _ (selections : List ℕ) where
   pub selections_first : Marked (free_of_selections selections 0) (set (replicate 4096 0) 0 1)
   unfolding free_of_selections owned_nowhere all
   selections_first =
-      marked_one (λ n. true) (free_of_selections selections 0) (replicate 4096 0) 0 all_free (omega arith) (λ n. and_true (not (eqb n 0)))
+      marked_one (λ n. true) (free_of_selections selections 0) (replicate 4096 0) 0 all_free (omega arith) (λ n. and-true (not (eqb n 0)))
 
   free_more : (row n : ℕ) (o : Optional) → owned_set selections row ≡ o
       → free_of_selections selections (row + 1) n ≡ (free_of_selections selections row n && owns_other n o)
@@ -60,14 +60,14 @@ module _ (selections : List ℕ) where
     pub selection_absent : owned_set selections row ≡ Absent → Marked (free_of_selections selections (row + 1)) marks
     selection_absent e =
         marked_same (free_of_selections selections row) (free_of_selections selections (row + 1)) marks m
-        (λ n l. free_more row n Absent e ∙ and_true (free_of_selections selections row n))
+        (λ n l. free_more row n Absent e ∙ and-true (free_of_selections selections row n))
 
     module _ (set : ℕ) (e : owned_set selections row ≡ Row set) where
       -- one that owns a set without a mark
       pub selection-past : 4096 ≤ set → Marked (free_of_selections selections (row + 1)) marks
       selection-past h =
           marked_same (free_of_selections selections row) (free_of_selections selections (row + 1)) marks m
-          (λ n l. free_more row n (Row set) e ∙ (rw (ne_eqb n set (λ f. omega arith)) (and_true (free_of_selections selections row n))))
+          (λ n l. free_more row n (Row set) e ∙ (rw (ne_eqb n set (λ f. omega arith)) (and-true (free_of_selections selections row n))))
 
       -- and one whose set has a mark
       pub selection-marked : set < 4096 → Marked (free_of_selections selections (row + 1)) (ListN.set marks set 1)
@@ -85,7 +85,7 @@ module _ (selections : List ℕ) where
     unfolding free_of_fragments all
     fragments_first marks m =
         marked_same (free_of_selections selections (rows_of selections selection_width)) (free_of_fragments selections fragments 0) marks m
-        (λ n l. and_true (free_of_selections selections (rows_of selections selection_width) n))
+        (λ n l. and-true (free_of_selections selections (rows_of selections selection_width) n))
 
     free_fragment : (row n : ℕ)
         → free_of_fragments selections fragments (row + 1) n ≡ (free_of_fragments selections fragments row n && not (eqb n (fragment_at fragments row).set))
@@ -101,7 +101,7 @@ module _ (selections : List ℕ) where
       fragment-past h =
           marked_same (free_of_fragments selections fragments row) (free_of_fragments selections fragments (row + 1)) marks m
           (λ n l. free_fragment row n
-          ∙ (rw (ne_eqb n (fragment_at fragments row).set (λ f. omega arith)) (and_true (free_of_fragments selections fragments row n))))
+          ∙ (rw (ne_eqb n (fragment_at fragments row).set (λ f. omega arith)) (and-true (free_of_fragments selections fragments row n))))
 
       pub fragment-marked : (fragment_at fragments row).set < 4096
           → Marked (free_of_fragments selections fragments (row + 1)) (ListN.set marks (fragment_at fragments row).set 1)

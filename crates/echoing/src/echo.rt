@@ -32,7 +32,7 @@ use writing::place::close;
 use writing::write::put;
 
 // Where an argument's value stands: a variable's node, a literal at a type, a default; or it has none.
-#[derive(Drop)]
+#[derive(Clone, Copy)]
 pub enum Source {
     Absent,
     Node(u32),

@@ -19,7 +19,7 @@ use rows::layout::{Optional, Range};
 use rows::schema::{TypeKind, TypeRef, field_at, type_at, type_ref_at};
 
 // An error and its place.
-#[derive(Drop)]
+#[derive(Clone, Copy)]
 pub struct Failure {
     pub error: FieldError,
     pub place: u32,
@@ -27,7 +27,7 @@ pub struct Failure {
 
 // How a coercion ends: there is a value, or it fails; or a container more would be open than there is room for, or a variable was reached
 // in a literal that converts part by part.
-#[derive(Drop)]
+#[derive(Clone, Copy)]
 pub enum Coercion {
     Value,
     Failed(Failure),
@@ -123,14 +123,14 @@ fn coerce_variable(
 }
 
 // What coercion tells apart in a literal that is no null and no variable.
-#[derive(Drop)]
+#[derive(Clone, Copy)]
 pub enum Shape {
     Single,
     Listed(Range),
     Keyed(Range),
 }
 
-#[derive(Drop)]
+#[derive(Clone, Copy)]
 pub enum Form {
     Null,
     Variable(u32),

@@ -22,7 +22,7 @@ const FIRST_LIST: u32 = 8;
 const LAST_LIST: u32 = 11;
 
 // A depth check's code; the depth where it is 0, and the place where it is 8.
-#[derive(Drop)]
+#[derive(Clone, Copy)]
 pub struct DepthAnswer {
     pub code: u32,
     pub depth: u32,
@@ -30,7 +30,7 @@ pub struct DepthAnswer {
 }
 
 // How the check of a selection or of a set ends: a 33rd set would be open, too deep at a place, or a depth.
-#[derive(Drop)]
+#[derive(Clone, Copy)]
 pub enum Checked {
     TooManySets,
     TooDeep(u32),

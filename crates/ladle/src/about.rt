@@ -6,7 +6,7 @@ use tables::rule::{DocumentRule, Rule, SchemaRule, SizeRule, ValueRule};
 
 // How long a table is and which type is the root are said of no row. A rule of a row is broken by the numbers in the row itself, by
 // bytes of the pool or by an earlier row, or by the rows of its range, through which it goes.
-#[derive(Drop)]
+#[derive(Clone, Copy)]
 pub enum Subject {
     Table,
     Numbers,

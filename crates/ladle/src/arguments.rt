@@ -4,7 +4,7 @@ ghost use Rattle.std.specs.Prelude.{◌≤◌};
 use rows::strings::is_same;
 
 // A verb says what is asked of the files behind it, and an option how they are run.
-#[derive(Drop)]
+#[derive(Clone, Copy)]
 pub enum Word {
     Check,
     Depth,

@@ -10,7 +10,7 @@ use verdict::words::print_depth;
 use verdict::{entries, file, say};
 
 // What is asked about a file's tables.
-#[derive(Drop)]
+#[derive(Clone, Copy)]
 pub enum Question {
     Check,
     Depth,

@@ -24,7 +24,7 @@ use values::node::{Put, put_node};
 use values::sort::{Sort, literal_sort, sort_of};
 
 // An answer's node; a name, for `__typename`; an argument that is echoed: a literal at a type, or a default.
-#[derive(Drop)]
+#[derive(Clone, Copy)]
 pub enum Leaf {
     Node(u32),
     Name(u32),

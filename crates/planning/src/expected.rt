@@ -25,7 +25,7 @@ pub const LIST: u16 = 4;
 // And this where null may stand there.
 pub const NULLABLE: u16 = 8;
 
-#[derive(Drop)]
+#[derive(Clone, Copy)]
 pub struct Expected {
     pub what: u16,
     pub of: u16,

@@ -11,7 +11,7 @@ use crate::layout::{
 use collecting::collect::Collecting;
 
 // A plan and the rows that stand; or collecting stops; or there is no room for a plan.
-#[derive(Drop)]
+#[derive(Clone, Copy)]
 pub enum Planned {
     At { plan: usize, top: usize },
     NoRoom,

@@ -35,7 +35,7 @@ use walking::state::{Completed, Done, Failure, Kind, State};
 use writing::write::put;
 
 // A list of this type of items (its answers), or an object of this type (the answers to its fields).
-#[derive(Drop)]
+#[derive(Clone, Copy)]
 pub enum Container {
     List {
         inner: u32,
@@ -50,7 +50,7 @@ pub enum Container {
 
 // A list or an object that is to be completed; where it fails it is nulled unless the place is non-null. The text stands behind what comes before
 // the value.
-#[derive(Drop)]
+#[derive(Clone, Copy)]
 pub struct Deeper {
     pub container: Container,
     pub non_null: bool,
@@ -59,21 +59,21 @@ pub struct Deeper {
     pub state: State,
 }
 
-#[derive(Drop)]
+#[derive(Clone, Copy)]
 pub enum Step {
     Finished(Done),
     Deeper(Deeper),
 }
 
 // A list or an object at a type; or the error that it is there.
-#[derive(Drop)]
+#[derive(Clone, Copy)]
 pub enum Opened {
     Container(Container),
     Error(FieldError),
 }
 
 // What comes of a field's arguments and its answer: it is left out, a value is given, it fails, or the run ends with a code.
-#[derive(Drop)]
+#[derive(Clone, Copy)]
 pub enum Answered {
     Skip,
     Given(Given),

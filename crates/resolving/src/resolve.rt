@@ -19,7 +19,7 @@ use walking::settle::{fail, placed, stopped};
 use walking::state::{Done, Failure, Kind, State};
 
 // What a resolver gave: a leaf, a list (its answers), an object (the name of its type, and the answers to its fields).
-#[derive(Drop)]
+#[derive(Clone, Copy)]
 pub enum Given {
     Leaf(Leaf),
     List(Range),
@@ -27,7 +27,7 @@ pub enum Given {
 }
 
 // Or it gave nothing, but a skip or an error.
-#[derive(Drop)]
+#[derive(Clone, Copy)]
 pub enum Resolved {
     Skip,
     Error,
@@ -35,7 +35,7 @@ pub enum Resolved {
 }
 
 // What items and errors need of a field: its arguments, as they are defined and as they are written, and its place.
-#[derive(Drop)]
+#[derive(Clone, Copy)]
 pub struct Asked {
     pub definitions: Range,
     pub written: Range,

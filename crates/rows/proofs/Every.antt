@@ -8,9 +8,9 @@ use native.Mathlib.Numerals.{add-one}
 use native.Mathlib.Omega.{arith}
 use Rattle.rows.specs.Rows.{all}
 
-pub and_false : (b : Bool) → (b && false) ≡ false
-and_false true = refl
-and_false false = refl
+pub and-false : (b : Bool) → (b && false) ≡ false
+and-false true = refl
+and-false false = refl
 
 pub falsified : (r b : Bool) → r ≡ b → not r ≡ true → b ≡ false
 falsified true b e n = absurd (false≢true n)
@@ -28,7 +28,7 @@ module _ (p : ℕ → Bool) where
     where
       go : Dec (suc i ≤ n) → (suc i ≤ n → all p n ≡ false) → (all p n && p n) ≡ false
       go (yes l) below = rw (below l)
-      go (no l) below = let s : i ≡ n = omega arith in rw (← s, e) (and_false (all p i))
+      go (no l) below = let s : i ≡ n = omega arith in rw (← s, e) (and-false (all p i))
 
   -- nothing has been looked at
   pub all_none : all p 0 ≡ true

@@ -1,7 +1,7 @@
 -- Two texts are the same just if their parts are, cut at one place; texts of different lengths are not.
 -- Assumes nothing.
 use mathlib.Core.Path.{◌≡◌, refl, sym, ap, ◌∙◌}
-use mathlib.Core.Bool.{Bool, true, false, not, ◌&&◌, and_assoc, and_true}
+use mathlib.Core.Bool.{Bool, true, false, not, ◌&&◌, and_assoc, and-true}
 use mathlib.Core.List.{List, [], ◌∷◌, ◌++◌}
 use Prim.Native.Nat.{ℕ, zero, suc, ◌+◌, ◌-◌, ◌≤◌, ◌<◌}
 use native.Mathlib.Numerals.{add-one}
@@ -11,14 +11,14 @@ use lib.Dec.{eqb}
 use lib.ListN.{length, get_or, take, drop, length-take, length-drop}
 use lib.Seq.{take-suc, take_all, drop-drop, length-take-le}
 use Rattle.rows.specs.Strings.{same}
-use Rattle.rows.proofs.Every.{and_false, and_right}
+use Rattle.rows.proofs.Every.{and-false, and_right}
 
 unequal_lengths : (a b : List ℕ) → (length a ≡ length b → ⊥) → same a b ≡ false
 unfolding same
 unequal_lengths [] [] h = absurd (h refl)
 unequal_lengths [] (y ∷ b) h = refl
 unequal_lengths (x ∷ a) [] h = refl
-unequal_lengths (x ∷ a) (y ∷ b) h = rw (unequal_lengths a b (λ e. h (ap suc e))) (and_false (eqb x y))
+unequal_lengths (x ∷ a) (y ∷ b) h = rw (unequal_lengths a b (λ e. h (ap suc e))) (and-false (eqb x y))
 
 pub same_lengths : (a b : List ℕ) → (length a ≡ length b → ⊥) → false ≡ same a b
 same_lengths a b h = sym (unequal_lengths a b h)
@@ -44,7 +44,7 @@ module _ (a b : List ℕ) (alike : length a ≡ length b) (agree : Bool) (i : �
       let inside : i < length b = omega arith in
       let both : length (take i a) ≡ length (take i b) = length-take-le i a (omega arith) ∙ sym (length-take-le i b (omega arith)) in
       rw (add-one, take-suc a i 0, take-suc b i 0, same_append (take i a) (take i b) _ _ both, inv)
-      (ap (λ (r : Bool). same (take i a) (take i b) && r) (sym (and_true (eqb (get_or a i 0) (get_or b i 0)))))
+      (ap (λ (r : Bool). same (take i a) (take i b) && r) (sym (and-true (eqb (get_or a i 0) (get_or b i 0)))))
 
   pub agree_all : length a ≤ i → agree ≡ same a b
   agree_all h = inv ∙ rw (take_all i a h, take_all i b (omega arith))
@@ -98,7 +98,7 @@ module _ (a b : List ℕ) (i : ℕ) (inv : same a b ≡ same (drop i a) (drop i 
       start = omega arith
 
       by_answer : (r : Bool) → r ≡ same (drop k a) (drop k b) → r ≡ same a b
-      by_answer false d = sym (same_cut k a b ∙ rw (← d) (and_false (same (take k a) (take k b))))
+      by_answer false d = sym (same_cut k a b ∙ rw (← d) (and-false (same (take k a) (take k b))))
       by_answer true d =
           let rest : (same (take (i - k) (drop k a)) (take (i - k) (drop k b)) && same (drop i a) (drop i b)) ≡ true =
           sym (d ∙ rw (same_cut (i - k) (drop k a) (drop k b), drop-drop (i - k) k a, drop-drop (i - k) k b, start)) in

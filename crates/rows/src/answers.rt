@@ -7,7 +7,7 @@ use crate::layout::{Range, cell};
 
 pub const ANSWER_WIDTH: usize = 5;
 
-#[derive(Drop)]
+#[derive(Clone, Copy)]
 pub enum Answer {
     Skip,
     Error,

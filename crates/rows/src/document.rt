@@ -19,7 +19,7 @@ pub const GIVEN_WIDTH: usize = 2;
 pub const FRAGMENT_WIDTH: usize = 3;
 
 // A skip or an include.
-#[derive(Drop)]
+#[derive(Clone, Copy)]
 pub enum Condition {
     Absent,
     False,
@@ -28,7 +28,7 @@ pub enum Condition {
 }
 
 // A field of a selection set; its child set is 0 where it has none.
-#[derive(Drop)]
+#[derive(Clone, Copy)]
 pub struct FieldSelection {
     pub name: u32,
     pub key: u32,
@@ -37,7 +37,7 @@ pub struct FieldSelection {
     pub ty: u32,
 }
 
-#[derive(Drop)]
+#[derive(Clone, Copy)]
 pub enum Selected {
     Field(FieldSelection),
     Spread { name: u32 },
@@ -45,7 +45,7 @@ pub enum Selected {
     Unknown,
 }
 
-#[derive(Drop)]
+#[derive(Clone, Copy)]
 pub struct Selection {
     pub what: Selected,
     pub skip: Condition,
@@ -53,13 +53,13 @@ pub struct Selection {
     pub place: u32,
 }
 
-#[derive(Drop)]
+#[derive(Clone, Copy)]
 pub struct Given {
     pub name: u32,
     pub literal: u32,
 }
 
-#[derive(Drop)]
+#[derive(Clone, Copy)]
 pub struct Fragment {
     pub name: u32,
     pub condition: u32,

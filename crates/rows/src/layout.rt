@@ -5,14 +5,14 @@ ghost use Rattle.rows.specs.Rows.{rows_of, cell as Rows·cell, option_of};
 use crate::limits::MOST_ROWS;
 
 // Rows that follow one another.
-#[derive(Drop)]
+#[derive(Clone, Copy)]
 pub struct Range {
     pub first: u32,
     pub count: u32,
 }
 
 // A row, or none: the word is 0 for none, and otherwise one more than the row's number.
-#[derive(Drop)]
+#[derive(Clone, Copy)]
 pub enum Optional {
     Absent,
     Row(u32),

@@ -20,14 +20,14 @@ pub const FIELD_WIDTH: usize = 6;
 
 pub const ARGUMENT_WIDTH: usize = 4;
 
-#[derive(Drop)]
+#[derive(Clone, Copy)]
 pub enum TypeRef {
     Named { name: u32, nullable: bool },
     ListOf { inner: u32, nullable: bool },
     Unknown,
 }
 
-#[derive(Drop)]
+#[derive(Clone, Copy)]
 pub enum TypeKind {
     Scalar,
     Enum,
@@ -39,7 +39,7 @@ pub enum TypeKind {
 }
 
 // A type. Its members are an enum's values, a union's members, or the interfaces of an object or interface.
-#[derive(Drop)]
+#[derive(Clone, Copy)]
 pub struct TypeDef {
     pub name: u32,
     pub kind: TypeKind,
@@ -47,7 +47,7 @@ pub struct TypeDef {
     pub members: Range,
 }
 
-#[derive(Drop)]
+#[derive(Clone, Copy)]
 pub struct Field {
     pub name: u32,
     pub ty: u32,
@@ -56,7 +56,7 @@ pub struct Field {
     pub arguments: Range,
 }
 
-#[derive(Drop)]
+#[derive(Clone, Copy)]
 pub struct Argument {
     pub name: u32,
     pub ty: u32,

@@ -3,7 +3,7 @@ ghost use Rattle.std.specs.Prelude.{◌≡◌, ◌≤◌, ◌<◌, length};
 ghost use Rattle.rows.specs.Strings.{text_of, same};
 
 // Where a string stands in the pool.
-#[derive(Drop)]
+#[derive(Clone, Copy)]
 pub struct Text {
     pub start: u32,
     pub len: u32,

@@ -8,7 +8,7 @@ use distinct::keys::all_node_keys_differ;
 use tables::rule::{Rule, ValueRule};
 
 // The first row at which a rule is broken, if there is one.
-#[derive(Drop)]
+#[derive(Clone, Copy)]
 pub enum Broken {
     At(u32),
     Nowhere,

@@ -1,6 +1,6 @@
 -- How the marks of the words met follow the rows: none at first, and with each row its word. Assumes nothing.
 use mathlib.Core.Path.{◌≡◌, refl, sym, ◌∙◌}
-use mathlib.Core.Bool.{Bool, true, false, not, ◌&&◌, and_true}
+use mathlib.Core.Bool.{Bool, true, false, not, ◌&&◌, and-true}
 use mathlib.Core.List.{List}
 use Prim.Native.Nat.{ℕ, ◌+◌, ◌≤◌, ◌<◌}
 use native.Mathlib.Numerals.{add-one}
@@ -12,17 +12,17 @@ use borrow.Author.Tests.{eqb-true, eqb-false, eq-eqb, ne_eqb}
 use Rattle.rows.specs.Rows.{all, cell}
 use Rattle.rules.specs.Rows.{is_new}
 use Rattle.rules.specs.Marks.{unmet, Met}
-use Rattle.rows.proofs.Every.{and_false}
+use Rattle.rows.proofs.Every.{and-false}
 
 module _ (t : List ℕ) (width column first : ℕ) where
   -- a word that is met, and one that is another than the row's
   unmet_same : (i word : ℕ) → word ≡ cell t width (first + i) column → false ≡ unmet t width column first (i + 1) word
   unfolding all
-  unmet_same i word e = rw (add-one, eq-eqb word (cell t width (first + i) column) e) (sym (and_false (unmet t width column first i word)))
+  unmet_same i word e = rw (add-one, eq-eqb word (cell t width (first + i) column) e) (sym (and-false (unmet t width column first i word)))
 
   unmet_other : (i word : ℕ) → (word ≡ cell t width (first + i) column → ⊥) → unmet t width column first i word ≡ unmet t width column first (i + 1) word
   unfolding all
-  unmet_other i word n = rw (add-one, ne_eqb word (cell t width (first + i) column) n) (sym (and_true (unmet t width column first i word)))
+  unmet_other i word n = rw (add-one, ne_eqb word (cell t width (first + i) column) n) (sym (and-true (unmet t width column first i word)))
 
   -- nothing is met
   pub met_none : Met t width column first 0 (replicate 512 0)

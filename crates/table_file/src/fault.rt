@@ -1,5 +1,5 @@
 // Why a text is no table file. `Fine` says that nothing is wrong.
-#[derive(Drop)]
+#[derive(Clone, Copy)]
 pub enum Fault {
     Fine,
     NoTableYet,

@@ -6,7 +6,7 @@ use crate::layout;
 use crate::scan::token_end;
 use rows::strings::is_same;
 
-#[derive(Drop)]
+#[derive(Clone, Copy)]
 pub enum Word {
     Known(u32),
     Unknown,

@@ -12,7 +12,7 @@ use crate::scan::{byte_at, ends_line, next_line, skip_blanks, token_end};
 
 // What a line leaves: where the next begins, and the table that stands open. Where something is
 // wrong, `at` is the place of it.
-#[derive(Drop)]
+#[derive(Clone, Copy)]
 pub struct Line {
     pub next: usize,
     pub number: usize,
@@ -22,7 +22,7 @@ pub struct Line {
 
 // What a file holds: how many words of each table, and the pool's bytes at 0. Where it is no
 // table file, `fault` says why, `line` where, and the token there lies between `from` and `to`.
-#[derive(Drop)]
+#[derive(Clone, Copy)]
 pub struct Contents {
     pub sizes: Sizes,
     pub line: usize,

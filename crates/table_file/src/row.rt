@@ -12,7 +12,7 @@ use crate::tokens::{Step, token};
 use rows::strings::is_same;
 
 // How often the words of a line stand, and where its tokens begin.
-#[derive(Drop)]
+#[derive(Clone, Copy)]
 pub struct Times {
     pub at: usize,
     pub times: usize,

@@ -7,7 +7,7 @@ use crate::layout::Pool;
 use crate::scan::{byte_at, ends_token};
 
 // One byte of a string, and where the next begins.
-#[derive(Drop)]
+#[derive(Clone, Copy)]
 pub struct Letter {
     pub at: usize,
     pub byte: u8,
@@ -15,7 +15,7 @@ pub struct Letter {
 }
 
 // A string that was read: where it ends, and how many bytes the pool then has.
-#[derive(Drop)]
+#[derive(Clone, Copy)]
 pub struct Spelled {
     pub at: usize,
     pub filled: usize,

@@ -15,14 +15,14 @@ use rows::layout::row_count;
 use rows::names::NAME_WIDTH;
 
 // How far the text is read.
-#[derive(Drop)]
+#[derive(Clone, Copy)]
 pub struct Step {
     pub at: usize,
     pub fault: Fault,
 }
 
 // What a token stands for: one word, or two.
-#[derive(Drop)]
+#[derive(Clone, Copy)]
 pub struct Value {
     pub first: u32,
     pub second: u32,

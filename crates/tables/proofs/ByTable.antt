@@ -24,19 +24,19 @@ use Rattle.tables.specs.declared.rule.SizeRule.TheVariants as size
 use Rattle.tables.specs.declared.rule.SchemaRule.TheVariants as schema
 use Rattle.tables.specs.declared.rule.DocumentRule.TheVariants as document
 use Rattle.tables.specs.declared.rule.ValueRule.TheVariants as value
-use Rattle.rows.proofs.Every.{and_false, and_left, and_right, all_at, all_each}
+use Rattle.rows.proofs.Every.{and-false, and_left, and_right, all_at, all_each}
 use Rattle.rules.proofs.Words.{same_truth}
 use Rattle.tables.proofs.Chained.{turned_true, turned_false, conj_at}
 use Rattle.tables.proofs.Facts.{few}
 use Rattle.tables.proofs.Lawful.{obeyed_at, all_obeyed}
 
 -- Both of two things, and of each row.
-and_true : {a b : Bool} → a ≡ true → b ≡ true → (a && b) ≡ true
-and_true e f = rw (e, f)
+and-true : {a b : Bool} → a ≡ true → b ≡ true → (a && b) ≡ true
+and-true e f = rw (e, f)
 
 module _ (p q : ℕ → Bool) (n : ℕ) where
   all_both : all p n ≡ true → all q n ≡ true → all (λ i. p i && q i) n ≡ true
-  all_both e f = all_each (λ i. p i && q i) n (λ i l. and_true (all_at p i n l e) (all_at q i n l f))
+  all_both e f = all_each (λ i. p i && q i) n (λ i l. and-true (all_at p i n l e) (all_at q i n l f))
 
   all_left : all (λ i. p i && q i) n ≡ true → all p n ≡ true
   all_left e = all_each p n (λ i l. and_left (p i) (q i) (all_at (λ j. p j && q j) i n l e))
@@ -212,60 +212,60 @@ module _ (T : Tables) where
     schema_hold : conj schema_all ≡ true
     unfolding conj obeyed name_holds field_holds type_holds
     schema_hold =
-        and_true (all_both (name_spelled T.pool T.names) (name_reserved T.pool T.names) (name_count T) (o (Schema schema.NameSpelled)) (o (Schema schema.NameReserved)))
-        (and_true (o (Schema schema.NamesDiffer))
-        (and_true (o (Schema schema.TypeReference))
-        (and_true (o (Schema schema.Member))
-        (and_true (o (Schema schema.ArgumentRow))
-        (and_true
+        and-true (all_both (name_spelled T.pool T.names) (name_reserved T.pool T.names) (name_count T) (o (Schema schema.NameSpelled)) (o (Schema schema.NameReserved)))
+        (and-true (o (Schema schema.NamesDiffer))
+        (and-true (o (Schema schema.TypeReference))
+        (and-true (o (Schema schema.Member))
+        (and-true (o (Schema schema.ArgumentRow))
+        (and-true
         (all_both (field_row (name_count T) (ref_count T) (argument_count T) (literal_count T) T.fields) (arguments_differ T.fields T.arguments) (field_count T)
         (o (Schema schema.FieldRow)) (o (Schema schema.ArgumentNamesDiffer)))
-        (and_true
+        (and-true
         (all_both (λ row. type_row (name_count T) (member_count T) (field_count T) T.types row && type_parts T.types row) (fields_differ T.types T.fields) (type_count T)
         (all_both (type_row (name_count T) (member_count T) (field_count T) T.types) (type_parts T.types) (type_count T) (o (Schema schema.TypeRow)) (o (Schema schema.TypeParts)))
         (o (Schema schema.FieldNamesDiffer)))
-        (and_true (o (Schema schema.TypeNamesDiffer)) root_type_lem)))))))
+        (and-true (o (Schema schema.TypeNamesDiffer)) root_type_lem)))))))
 
     document_hold : conj document_all ≡ true
     unfolding conj obeyed selection_holds set_holds
     document_hold =
-        and_true (o (Document document.GivenRow))
-        (and_true
+        and-true (o (Document document.GivenRow))
+        (and-true
         (all_both (selection_row (name_count T) (ref_count T) (set_count T) (given_count T) T.selections) (given_differ T.selections T.given) (selection_count T)
         (o (Document document.SelectionRow)) (o (Document document.GivenNamesDiffer)))
-        (and_true (o (Document document.FragmentRow))
-        (and_true (o (Document document.FragmentNamesDiffer))
-        (and_true (and_true (o (Document document.SelectionOwnsAlone)) (o (Document document.FragmentOwnsAlone)))
+        (and-true (o (Document document.FragmentRow))
+        (and-true (o (Document document.FragmentNamesDiffer))
+        (and-true (and-true (o (Document document.SelectionOwnsAlone)) (o (Document document.FragmentOwnsAlone)))
         (all_both (set_row (selection_count T) T.sets) (child_sets_larger T.sets T.selections) (set_count T) (o (Document document.SetRow))
         (o (Document document.ChildSetsLarger)))))))
 
     values_hold : conj values_all ≡ true
     unfolding conj obeyed node_holds literal_holds
     values_hold =
-        and_true
-        (and_true
+        and-true
+        (and-true
         (all_both (node_key_row T.pool T.nodes) (node_row T.pool (node_count T) T.nodes) (node_count T) (o (Value value.NodeKey)) (o (Value value.NodeRow)))
         (o (Value value.NodeKeysDiffer)))
-        (and_true
+        (and-true
         (all_both (literal_row T.pool (name_count T) (literal_count T) T.literals) (literal_keys_differ T.literals) (literal_count T)
         (o (Value value.LiteralRow)) (o (Value value.LiteralKeysDiffer)))
-        (and_true (o (Value value.VariableRow))
-        (and_true (o (Value value.VariableNamesDiffer))
-        (and_true (and_true (o (Value value.AnswerRow)) (o (Value value.AnswerNamesDiffer))) root_answer_lem))))
+        (and-true (o (Value value.VariableRow))
+        (and-true (o (Value value.VariableNamesDiffer))
+        (and-true (and-true (o (Value value.AnswerRow)) (o (Value value.AnswerNamesDiffer))) root_answer_lem))))
 
     sizes_hold : (conj (schema_sizes T) && (conj (document_sizes T) && conj (values_sizes T))) ≡ true
     unfolding conj
     sizes_hold =
-        and_true
-        (and_true (size_at size.Pool) (and_true (size_at size.Names) (and_true (size_at size.TypeRefs) (and_true (size_at size.Types)
-        (and_true (size_at size.Fields) (size_at size.Arguments))))))
-        (and_true
-        (and_true (size_at size.Sets) (and_true (size_at size.Selections) (and_true (size_at size.Given) (size_at size.Fragments))))
-        (and_true (size_at size.Nodes) (and_true (size_at size.Literals) (and_true (size_at size.Variables) (size_at size.Answers)))))
+        and-true
+        (and-true (size_at size.Pool) (and-true (size_at size.Names) (and-true (size_at size.TypeRefs) (and-true (size_at size.Types)
+        (and-true (size_at size.Fields) (size_at size.Arguments))))))
+        (and-true
+        (and-true (size_at size.Sets) (and-true (size_at size.Selections) (and-true (size_at size.Given) (size_at size.Fragments))))
+        (and-true (size_at size.Nodes) (and-true (size_at size.Literals) (and-true (size_at size.Variables) (size_at size.Answers)))))
 
     all_hold : by_table T ≡ true
     unfolding by_table
-    all_hold = and_true sizes_hold (and_true schema_hold (and_true document_hold values_hold))
+    all_hold = and-true sizes_hold (and-true schema_hold (and-true document_hold values_hold))
 
   -- the one theorem: what is looked at table by table is every rule
   pub by_table_lem : by_table T ≡ rows_lawful T
@@ -286,13 +286,13 @@ module _ (T : Tables) where
   unfolding by_table
   stop_schema h e n =
       let broken : conj schema_all ≡ false = sym e ∙ turned_false h n in
-      rw (← by_table_lem, broken) (sym (and_false (conj (schema_sizes T) && (conj (document_sizes T) && conj (values_sizes T)))))
+      rw (← by_table_lem, broken) (sym (and-false (conj (schema_sizes T) && (conj (document_sizes T) && conj (values_sizes T)))))
 
   pub stop_document : (h : Bool) → h ≡ conj document_all → not h ≡ true → false ≡ rows_lawful T
   unfolding by_table
   stop_document h e n =
       let broken : conj document_all ≡ false = sym e ∙ turned_false h n in
-      rw (← by_table_lem, broken, and_false) (sym (and_false (conj (schema_sizes T) && (conj (document_sizes T) && conj (values_sizes T)))))
+      rw (← by_table_lem, broken, and-false) (sym (and-false (conj (schema_sizes T) && (conj (document_sizes T) && conj (values_sizes T)))))
 
   pub go_values : (s d v h k r : Bool) → s ≡ conj (schema_sizes T) → d ≡ conj (document_sizes T) → v ≡ conj (values_sizes T) → not (sizes_of s d v) ≡ false
       → h ≡ conj schema_all → not h ≡ false → k ≡ conj document_all → not k ≡ false → r ≡ conj values_all → r ≡ rows_lawful T

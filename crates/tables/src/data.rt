@@ -63,7 +63,7 @@ fn node_is_plain(nodes: &[u32], row: u32) -> bool
 }
 
 // What was seen of all nodes, or of all answers: whether each holds by itself, and whether none has keys, or names, to compare.
-#[derive(Drop)]
+#[derive(Clone, Copy)]
 struct Seen {
     lawful: bool,
     plain: bool,

@@ -1,6 +1,6 @@
 // The rules of document 01 on the tables lent, by name. What each says is in specs/Rules.antt.
 // How many rows a table has.
-#[derive(Drop)]
+#[derive(Clone, Copy)]
 pub enum SizeRule {
     Pool,
     Names,
@@ -19,7 +19,7 @@ pub enum SizeRule {
 }
 
 // Names, type references, types, fields and arguments.
-#[derive(Drop)]
+#[derive(Clone, Copy)]
 pub enum SchemaRule {
     NameSpelled,
     NameReserved,
@@ -37,7 +37,7 @@ pub enum SchemaRule {
 }
 
 // Sets of selections, arguments given, fragments.
-#[derive(Drop)]
+#[derive(Clone, Copy)]
 pub enum DocumentRule {
     SetRow,
     SelectionRow,
@@ -51,7 +51,7 @@ pub enum DocumentRule {
 }
 
 // JSON nodes, literals, variables, answers.
-#[derive(Drop)]
+#[derive(Clone, Copy)]
 pub enum ValueRule {
     NodeRow,
     NodeKey,
@@ -65,7 +65,7 @@ pub enum ValueRule {
     RootAnswer,
 }
 
-#[derive(Drop)]
+#[derive(Clone, Copy)]
 pub enum Rule {
     Size(SizeRule),
     Schema(SchemaRule),

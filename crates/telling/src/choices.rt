@@ -5,7 +5,7 @@ use table_file::fault::Fault;
 use table_file::word_number;
 
 // What stands in front of `choices`: how many there are, and whether the text is a list of numbers and short enough.
-#[derive(Drop)]
+#[derive(Clone, Copy)]
 pub struct Order {
     pub count: usize,
     pub is_read: bool,

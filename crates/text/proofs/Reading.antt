@@ -2,7 +2,7 @@
 -- And the tests of a range, at an octet inside it, below it and above it.
 -- Assumes nothing.
 use mathlib.Core.Path.{◌≡◌, refl, sym, ◌∙◌}
-use mathlib.Core.Bool.{Bool, true, false, ◌&&◌, and_false, true≢false}
+use mathlib.Core.Bool.{Bool, true, false, ◌&&◌, and-false, true≢false}
 use mathlib.Core.Logic.{◌⊎◌, inl, inr}
 use mathlib.Core.List.{List, [], ◌∷◌}
 use Prim.Native.Nat.{ℕ, ◌+◌, ◌≤◌, ◌<◌}
@@ -33,7 +33,7 @@ pub below_range : (low high c : ℕ) → c < low → (c ∈ (low to high)) ≡ f
 below_range low high c a = simp (lt-leb low c a)
 
 pub above_range : (low high c : ℕ) → high < c → (c ∈ (low to high)) ≡ false
-above_range low high c a = simp (lt-leb c high a) (and_false (leb low c))
+above_range low high c a = simp (lt-leb c high a) (and-false (leb low c))
 
 pub and_left : (a b : Bool) → (a && b) ≡ true → a ≡ true
 and_left true b e = refl

@@ -6,7 +6,7 @@ ghost use Rattle.text.specs.Grammar.{optional};
 ghost use Rattle.text.specs.Found.{rest};
 
 // Where a part of the text ends, if it is there.
-#[derive(Drop)]
+#[derive(Clone, Copy)]
 enum Part {
     Ends(usize),
     Absent,

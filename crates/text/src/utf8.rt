@@ -8,7 +8,7 @@ ghost use Rattle.text.specs.Found.{Decodes};
 use crate::ascii::past_ascii;
 
 // What stands at a position of a text.
-#[derive(Drop)]
+#[derive(Clone, Copy)]
 enum Decoded {
     // A character: its code point, and the position past its last byte.
     Char { point: u32, next: usize },

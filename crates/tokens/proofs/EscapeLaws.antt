@@ -2,7 +2,7 @@
 use mathlib.Core.Path.{◌≡◌, refl, sym, ap, ◌∙◌}
 use mathlib.Core.List.{List, [], ◌∷◌, ◌++◌, append_assoc, append-nil}
 use Prim.Native.Nat.{ℕ, ◌+◌, ◌-◌, ◌≤◌, ◌<◌}
-use mathlib.Core.Bool.{Bool, true, false, true≢false, not, ◌&&◌, and_true, and_assoc}
+use mathlib.Core.Bool.{Bool, true, false, true≢false, not, ◌&&◌, and-true, and_assoc}
 use native.Mathlib.Omega.{arith}
 use borrow.Author.Tests.{lt-ltb, le-ltb, leb-true, leb-false, ne_eqb}
 use lib.Dec.{ltb, leb, eqb}
@@ -73,7 +73,7 @@ all_plain_append (x ∷ xs) ys = ap (λ (rest : Bool). is_plain x && rest) (all_
 
 pub all_plain_snoc : (xs : List ℕ) (x : ℕ) → all_plain (xs ++ (x ∷ [])) ≡ (all_plain xs && is_plain x)
 unfolding all_plain
-all_plain_snoc xs x = all_plain_append xs (x ∷ []) ∙ ap (λ (last : Bool). all_plain xs && last) (and_true (is_plain x))
+all_plain_snoc xs x = all_plain_append xs (x ∷ []) ∙ ap (λ (last : Bool). all_plain xs && last) (and-true (is_plain x))
 
 -- The first k bytes are plain and the last k, if these reach into one another: all are.
 pub all_plain_lapped : (k : ℕ) (s : List ℕ) → k ≤ length s → length s ≤ k + k → (all_plain (take k s) && all_plain (take k (drop (length s - k) s))) ≡ all_plain s

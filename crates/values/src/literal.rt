@@ -14,7 +14,7 @@ use tokens::json::{put_false, put_natural, put_negative, put_null, put_string, p
 use writing::write::{put, put_all};
 
 // The position after a literal's text; or a container more would be open than there is room for; or a variable was reached.
-#[derive(Drop)]
+#[derive(Clone, Copy)]
 pub enum PutLiteral {
     At(usize),
     TooFar,

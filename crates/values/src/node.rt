@@ -13,20 +13,20 @@ use writing::place::close;
 use writing::write::put;
 
 // The position after a node's text; or a container more would be open than there is room for.
-#[derive(Drop)]
+#[derive(Clone, Copy)]
 pub enum Put {
     At(usize),
     TooFar,
 }
 
 // The parts of an object have keys, those of an array have none.
-#[derive(Drop)]
+#[derive(Clone, Copy)]
 pub struct Parts {
     pub keyed: bool,
     pub rows: Range,
 }
 
-#[derive(Drop)]
+#[derive(Clone, Copy)]
 pub enum Shape {
     Plain,
     Container(Parts),

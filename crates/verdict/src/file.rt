@@ -2,7 +2,7 @@
 ghost use Rattle.std.specs.Prelude.{◌≡◌, ◌≤◌, take, replicate};
 
 // Why a file's text is not read. `Fine` says that it is.
-#[derive(Drop)]
+#[derive(Clone, Copy)]
 pub enum Fault {
     Fine,
     CannotBeOpened,
@@ -15,7 +15,7 @@ pub const ROOM: usize = 1048576;
 
 pub type Room = [u8; ROOM];
 
-#[derive(Drop)]
+#[derive(Clone, Copy)]
 pub struct Text {
     pub length: usize,
     pub fault: Fault,

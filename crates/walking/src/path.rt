@@ -9,7 +9,7 @@ pub const MOST_SEGMENTS: usize = 32;
 // A segment is a word: the number of a name, or 4096 and an index, which are below 512 and 4096.
 pub const INDEX: u16 = 4096;
 
-#[derive(Drop)]
+#[derive(Clone, Copy)]
 pub struct Path {
     pub segments: [u16; 32],
     pub count: usize,

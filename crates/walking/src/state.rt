@@ -2,7 +2,7 @@
 
 // Where the next byte of the text goes, the next word of the errors and the next choice, and how many rows of plans stand. A position past its
 // buffer's end says only that it is past it.
-#[derive(Drop)]
+#[derive(Clone, Copy)]
 pub struct State {
     pub at: usize,
     pub errs: usize,
@@ -11,7 +11,7 @@ pub struct State {
 }
 
 // What stands at a place. An entry of a list or an object may be left out.
-#[derive(Drop)]
+#[derive(Clone, Copy)]
 pub enum Kind {
     LeftOut,
     Null,
@@ -21,7 +21,7 @@ pub enum Kind {
 }
 
 // How far a failure goes up: to the place around it, past the list around it, or to the end of the run, with document 01's code.
-#[derive(Drop)]
+#[derive(Clone, Copy)]
 pub enum Failure {
     Here,
     PastList,
@@ -29,13 +29,13 @@ pub enum Failure {
 }
 
 // The answer of a completion: a completed place, or a failure going up.
-#[derive(Drop)]
+#[derive(Clone, Copy)]
 pub enum Completed {
     Placed(Kind),
     Fails(Failure),
 }
 
-#[derive(Drop)]
+#[derive(Clone, Copy)]
 pub struct Done {
     pub what: Completed,
     pub state: State,

@@ -1,7 +1,7 @@
 -- A rotation by three reversals, and what was written last in its place among the rest. Of two runs side by side, reversing each and then both gives
 -- the second before the first, since a reversal of x and then y is y's reversal and then x's. Assumes nothing.
 use mathlib.Core.Path.{◌≡◌, sym, ap, ◌∙◌}
-use mathlib.Core.Bool.{and_false}
+use mathlib.Core.Bool.{and-false}
 use mathlib.Core.List.{List, [], ◌∷◌, ◌++◌, append_assoc}
 use Prim.Native.Nat.{ℕ, suc, ◌+◌, ◌-◌, ◌≤◌, ◌<◌, min}
 use native.Mathlib.Omega.{arith}
@@ -140,9 +140,9 @@ module _ (t : List ℕ) (a m e : ℕ) where
   -- the second is after the third
   pub moves_not_far : e ≤ length t → e < m → Moves t a m e t
   unfolding turned_into_place
-  moves_not_far h k = record { exact = simp (lt-leb m e k, and_false); moves = λ b xs ys zs s w l. not_far a m xs ys zs w l h k }
+  moves_not_far h k = record { exact = simp (lt-leb m e k, and-false); moves = λ b xs ys zs s w l. not_far a m xs ys zs w l h k }
 
   -- the third is past the end
   pub moves_not_over : length t < e → Moves t a m e t
   unfolding turned_into_place
-  moves_not_over k = record { exact = simp (lt-leb e (length t) k, and_false); moves = λ b xs ys zs s w l. turned_over a m xs ys zs w l k }
+  moves_not_over k = record { exact = simp (lt-leb e (length t) k, and-false); moves = λ b xs ys zs s w l. turned_over a m xs ys zs w l k }

@@ -1,6 +1,6 @@
 -- What a step that writes at a position does to a buffer, of bytes or of words: `Writes` is what every writer ensures.
 use Rattle.std.specs.Prelude.{◌≡◌, cond, ◌&&◌, List, [], ◌∷◌, ◌++◌, ℕ, suc, ◌+◌, ◌-◌, ◌≤◌, min, length, take, drop, replicate, leb, eqb}
-use Rattle.bytes.specs.Bytes.{slice}
+use Rattle.std.proofs.Math.Seq.{slice}
 
 -- From the position `at` to `at'`, `out` was written. A position past the buffer's end says only that what was to be written did not fit: all such
 -- positions count as one. What stands before `at` stays in any case, so that a writer can go back to `at` and write something else.

@@ -23,9 +23,9 @@ fn rotate(text: &mut [u8], a: usize, b: usize, e: usize)
     requires { (a ≤ b) × (b ≤ e) × (e ≤ length text.old) }
     ensures { text.new ≡ rotated a b e text.old }
 {
-    bytes::reverse(text, a, b);
-    bytes::reverse(text, b, e);
-    bytes::reverse(text, a, e);
+    text[a..b].reverse();
+    text[b..e].reverse();
+    text[a..e].reverse();
 }
 
 // What was written last, from b to e, goes to its place a. Of a text that did not fit there is nothing to move.

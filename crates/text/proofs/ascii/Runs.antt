@@ -1,7 +1,7 @@
 -- US-ASCII of a text that grows at its end: by an octet, whose highest bit an `|` keeps, or by a block.
 -- Assumes nothing.
 use mathlib.Core.Path.{◌≡◌, refl, sym, ap, ◌∙◌}
-use mathlib.Core.Bool.{Bool, true, false, not, ◌&&◌, and_assoc, and_true}
+use mathlib.Core.Bool.{Bool, true, false, not, ◌&&◌, and_assoc, and-true}
 use mathlib.Core.List.{List, [], ◌∷◌, ◌++◌}
 use Prim.Native.Nat.{ℕ, ◌+◌, ◌-◌, ◌≤◌, ◌<◌}
 use native.Mathlib.Nat.{add-mul}
@@ -35,7 +35,7 @@ module _ (s : List ℕ) (gathered i : ℕ) (inv : ltb gathered 0x80 ≡ is_ascii
   pub gathered_more : i < length s → ltb (bit_or gathered (get_or s i 0)) 0x80 ≡ is_ascii (take (i + 1) s)
   unfolding is_ascii
   gathered_more h =
-      rw (add-one, take-suc s i 0, ascii_append, high_kept, inv) (ap (λ (b : Bool). is_ascii (take i s) && b) (sym (and_true (ltb (get_or s i 0) 0x80))))
+      rw (add-one, take-suc s i 0, ascii_append, high_kept, inv) (ap (λ (b : Bool). is_ascii (take i s) && b) (sym (and-true (ltb (get_or s i 0) 0x80))))
 
   pub gathered_all : length s ≤ i → ltb gathered 0x80 ≡ is_ascii s
   gathered_all h = inv ∙ ap is_ascii (take_all i s h)

@@ -2,7 +2,7 @@
 -- function looks for then leaves of the text.
 -- Assumes nothing.
 use mathlib.Core.Path.{◌≡◌, sym, ap, ◌∙◌}
-use mathlib.Core.Bool.{Bool, true, false, not, ◌&&◌, and_true, and_false}
+use mathlib.Core.Bool.{Bool, true, false, not, ◌&&◌, and-true, and-false}
 use mathlib.Core.Logic.{⊎_elim}
 use mathlib.Core.List.{List}
 use Prim.Native.Nat.{ℕ, ◌+◌, ◌≤◌, ◌<◌}
@@ -149,20 +149,20 @@ module _ (s : List ℕ) (at : ℕ) (fraction exponent : Part) (f : rest s fracti
   module _ (past : ℕ) (there : fraction ≡ Ends past) (x : rest s exponent ≡ exp (drop past s)) where
     pub frac_and_exp : (end : ℕ) → exponent ≡ Ends end → leb (length s) end ≡ frac_or_exp (drop at s)
     unfolding frac_or_exp
-    frac_and_exp end e = sym (rw (← f, there, ← x, e) (and_true (is_end (drop end s)) ∙ sym (end_test s end)))
+    frac_and_exp end e = sym (rw (← f, there, ← x, e) (and-true (is_end (drop end s)) ∙ sym (end_test s end)))
 
     pub frac_alone : exponent ≡ Absent → leb (length s) past ≡ frac_or_exp (drop at s)
     unfolding frac_or_exp
-    frac_alone e = sym (rw (← f, there, ← x, e) (and_true (is_end (drop past s)) ∙ sym (end_test s past)))
+    frac_alone e = sym (rw (← f, there, ← x, e) (and-true (is_end (drop past s)) ∙ sym (end_test s past)))
 
   module _ (missing : fraction ≡ Absent) (x : rest s exponent ≡ exp (drop at s)) where
     pub exp_alone : (end : ℕ) → exponent ≡ Ends end → leb (length s) end ≡ frac_or_exp (drop at s)
     unfolding frac_or_exp
-    exp_alone end e = sym (rw (← f, missing, ← x, e) (and_true (is_end (drop end s)) ∙ sym (end_test s end)))
+    exp_alone end e = sym (rw (← f, missing, ← x, e) (and-true (is_end (drop end s)) ∙ sym (end_test s end)))
 
     pub neither : exponent ≡ Absent → false ≡ frac_or_exp (drop at s)
     unfolding frac_or_exp
-    neither e = sym (rw (← f, missing, ← x, e) (and_false (is_end (drop at s))))
+    neither e = sym (rw (← f, missing, ← x, e) (and-false (is_end (drop at s))))
 
 module _ (s : List ℕ) (from : ℕ) (whole : Part) (m : drop from s ≡ optional minus (drop 0 s)) (w : rest s whole ≡ int (drop from s)) where
   pub float_by_rest : (past : ℕ) (r : Bool) → whole ≡ Ends past → r ≡ frac_or_exp (drop past s) → r ≡ is_float s

@@ -2,7 +2,7 @@
 -- read is taken off its front. One law for each way through `decode_sequence`, `decode` and `is_utf8`.
 -- Assumes nothing.
 use mathlib.Core.Path.{◌≡◌, refl, sym, ap, ◌∙◌, subst}
-use mathlib.Core.Bool.{Bool, true, false, not, ◌&&◌, and_false, true≢false}
+use mathlib.Core.Bool.{Bool, true, false, not, ◌&&◌, and-false, true≢false}
 use mathlib.Core.Logic.{⊎_elim}
 use mathlib.Core.List.{List, [], ◌∷◌}
 use Prim.Native.Nat.{ℕ, zero, suc, ◌+◌, ◌-◌, ◌*◌, ◌%◌, ◌^◌, ◌≤◌, ◌<◌}
@@ -97,7 +97,7 @@ unfolding completes
 completes_short n zero p t h = let z : ⊥ = omega arith in absurd z
 completes_short n (suc k) p [] h = refl
 completes_short n (suc k) p (b ∷ t) h =
-    ap (λ (x : Bool). (b ∈ UTF8-tail) && x) (completes_short n k (p * 64 + b % 64) t (omega arith)) ∙ and_false (b ∈ UTF8-tail)
+    ap (λ (x : Bool). (b ∈ UTF8-tail) && x) (completes_short n k (p * 64 + b % 64) t (omega arith)) ∙ and-false (b ∈ UTF8-tail)
 
 -- ---- the ways through `decode_sequence`
 

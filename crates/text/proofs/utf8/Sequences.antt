@@ -3,7 +3,7 @@
 -- It is shown for each line of the ABNF, where a range of the second octet is a bound on the number.
 -- Assumes nothing.
 use mathlib.Core.Path.{◌≡◌, refl, sym, ap, ◌∙◌, subst}
-use mathlib.Core.Bool.{Bool, true, false, ◌&&◌, and_false}
+use mathlib.Core.Bool.{Bool, true, false, ◌&&◌, and-false}
 use mathlib.Core.Logic.{⊎_elim}
 use mathlib.Core.List.{List, [], ◌∷◌}
 use mathlib.Core.Option.{none, some}
@@ -107,13 +107,13 @@ as_range false r a f g = g refl
 order_three : (b c a u : Bool) → ((b && a) && (c && u)) ≡ (b && (c && (a && u)))
 order_three false c a u = refl
 order_three true true a u = refl
-order_three true false a u = and_false a
+order_three true false a u = and-false a
 
 order_four : (b c d a u : Bool) → ((b && a) && (c && (d && u))) ≡ (b && (c && (d && (a && u))))
 order_four false c d a u = refl
 order_four true true true a u = refl
-order_four true true false a u = and_false a
-order_four true false d a u = and_false a
+order_four true true false a u = and-false a
+order_four true false d a u = and-false a
 
 pub two_octets : (a p : ℕ) → following UTF8-char a ≡ some (UTF8-tail ∷ []) → ((b : ℕ) → true ≡ allowed 2 (p * 64 + b % 64))
     → (t : List ℕ) → is_utf8 (a ∷ t) ≡ completes 2 1 p t
@@ -128,7 +128,7 @@ module _ (a p : ℕ) (range : Range) where
       → (t : List ℕ) → is_utf8 (a ∷ t) ≡ completes 3 2 p t
   unfolding is_utf8 octets_after completes
   three_octets e f g [] = rw (octets_after, e)
-  three_octets e f g (b ∷ []) = rw (octets_after, e) (and_false (b ∈ range) ∙ sym (and_false (b ∈ UTF8-tail)))
+  three_octets e f g (b ∷ []) = rw (octets_after, e) (and-false (b ∈ range) ∙ sym (and-false (b ∈ UTF8-tail)))
   three_octets e f g (b ∷ c ∷ t) =
       let n : ℕ = (p * 64 + b % 64) * 64 + c % 64 in
       rw (octets_after, e)
@@ -141,10 +141,10 @@ module _ (a p : ℕ) (range : Range) where
       → (t : List ℕ) → is_utf8 (a ∷ t) ≡ completes 4 3 p t
   unfolding is_utf8 octets_after completes
   four_octets e f g [] = rw (octets_after, e)
-  four_octets e f g (b ∷ []) = rw (octets_after, e) (and_false (b ∈ range) ∙ sym (and_false (b ∈ UTF8-tail)))
+  four_octets e f g (b ∷ []) = rw (octets_after, e) (and-false (b ∈ range) ∙ sym (and-false (b ∈ UTF8-tail)))
   four_octets e f g (b ∷ c ∷ []) =
-      rw (octets_after, e) (ap (λ (x : Bool). (b ∈ range) && x) (and_false (c ∈ UTF8-tail)) ∙ and_false (b ∈ range)
-      ∙ sym (ap (λ (x : Bool). (b ∈ UTF8-tail) && x) (and_false (c ∈ UTF8-tail)) ∙ and_false (b ∈ UTF8-tail)))
+      rw (octets_after, e) (ap (λ (x : Bool). (b ∈ range) && x) (and-false (c ∈ UTF8-tail)) ∙ and-false (b ∈ range)
+      ∙ sym (ap (λ (x : Bool). (b ∈ UTF8-tail) && x) (and-false (c ∈ UTF8-tail)) ∙ and-false (b ∈ UTF8-tail)))
   four_octets e f g (b ∷ c ∷ d ∷ t) =
       let n : ℕ = ((p * 64 + b % 64) * 64 + c % 64) * 64 + d % 64 in
       rw (octets_after, e)
@@ -158,7 +158,7 @@ module _ (a : ℕ) where
   line_c0 : 0xC0 ≤ a → a < 0xC2 → (t : List ℕ) → completes 2 1 (a % 32) t ≡ false
   unfolding completes
   line_c0 h k [] = refl
-  line_c0 h k (b ∷ t) = rw (← overlong 2 (a % 32 * 64 + b % 64) 0x80 refl (omega arith)) (and_false (b ∈ UTF8-tail))
+  line_c0 h k (b ∷ t) = rw (← overlong 2 (a % 32 * 64 + b % 64) 0x80 refl (omega arith)) (and-false (b ∈ UTF8-tail))
 
   two_lines : 0xC0 ≤ a → a < 0xE0 → (t : List ℕ) → is_utf8 (a ∷ t) ≡ completes 2 1 (lead_bits 2 a) t
   two_lines h k t =
@@ -259,12 +259,12 @@ line_f4 t =
 line_f5 : (a : ℕ) → 0xF5 ≤ a → a < 0xF8 → (t : List ℕ) → completes 4 3 (a % 8) t ≡ false
 unfolding completes
 line_f5 a h k [] = refl
-line_f5 a h k (b ∷ []) = and_false (b ∈ UTF8-tail)
-line_f5 a h k (b ∷ c ∷ []) = ap (λ (x : Bool). (b ∈ UTF8-tail) && x) (and_false (c ∈ UTF8-tail)) ∙ and_false (b ∈ UTF8-tail)
+line_f5 a h k (b ∷ []) = and-false (b ∈ UTF8-tail)
+line_f5 a h k (b ∷ c ∷ []) = ap (λ (x : Bool). (b ∈ UTF8-tail) && x) (and-false (c ∈ UTF8-tail)) ∙ and-false (b ∈ UTF8-tail)
 line_f5 a h k (b ∷ c ∷ d ∷ t) =
     let n : ℕ = ((a % 8 * 64 + b % 64) * 64 + c % 64) * 64 + d % 64 in
     let above : allowed 4 n ≡ false = sym (after_surrogates 4 n 0x10000 refl (omega arith) (omega arith)) ∙ lt-leb n 0x10FFFF (omega arith) in
-    simp (above, and_false)
+    simp (above, and-false)
 
 four_lines : (a : ℕ) → 0xF0 ≤ a → a < 0xF8 → (t : List ℕ) → is_utf8 (a ∷ t) ≡ completes 4 3 (lead_bits 4 a) t
 four_lines a h k t =
