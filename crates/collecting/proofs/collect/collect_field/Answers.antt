@@ -1,0 +1,11 @@
+-- The list is full, or the row is put after those that it has. Assumes nothing.
+use native.Mathlib.Omega.{arith}
+use borrow.Author.Rules.{rules}
+use Rattle.collecting.proofs.Walk.{field_full, field_put}
+use Rattle.collecting.proofs.collect.collect_field.Goals as goal
+
+pub returns-then-count-ge-MOST_COLLECTED : goal.returns-then-count-ge-MOST_COLLECTED
+returns-then-count-ge-MOST_COLLECTED c = field_full _ (omega arith)
+
+pub returns : goal.returns
+returns c = field_put _ (omega arith)

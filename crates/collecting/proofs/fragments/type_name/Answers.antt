@@ -1,0 +1,6 @@
+-- The name is that of the type that `type_at` reads. Assumes nothing.
+use borrow.Author.Rules.{rules}
+use Rattle.collecting.proofs.fragments.type_name.Goals as goal
+
+pub returns : goal.returns
+returns c = cc

@@ -1,0 +1,7 @@
+-- A row's bit is the number 1 shifted by the row. Assumes nothing.
+use borrow.Author.Rules.{rules}
+use Rattle.collecting.proofs.Bits.{mark_read}
+use Rattle.collecting.proofs.visited.is_visited.Goals as goal
+
+pub returns : goal.returns
+returns c = mark_read c.args.row c.args.visited c.requires

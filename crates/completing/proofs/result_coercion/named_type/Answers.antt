@@ -1,0 +1,18 @@
+-- By the reference, and by what is found of its name. Assumes nothing.
+use Rattle.completing.proofs.Types.{ref_defined, ref_list, ref_undefined, ref_unknown}
+use borrow.Author.Rules.{rules}
+use Rattle.completing.proofs.result_coercion.named_type.Goals as goal
+
+pub returns-in-Absent : goal.returns-in-Absent
+returns-in-Absent c = ref_undefined _ _ c.type_ref_at.ensures
+    c.in-Named.is c.type_named.ensures c.in-Absent.is
+
+pub returns-in-Row : goal.returns-in-Row
+returns-in-Row c = ref_defined _ _ c.type_ref_at.ensures
+    c.in-Named.is c.type_named.ensures c.in-Row.is
+
+pub returns-in-ListOf : goal.returns-in-ListOf
+returns-in-ListOf c = ref_list _ _ c.type_ref_at.ensures c.in-ListOf.is
+
+pub returns-in-Unknown : goal.returns-in-Unknown
+returns-in-Unknown c = ref_unknown _ _ c.type_ref_at.ensures c.in-Unknown.is

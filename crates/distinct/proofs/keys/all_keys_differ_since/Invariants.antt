@@ -1,0 +1,15 @@
+-- The keys of the nodes passed differ; a node whose keys do not ends the search. Assumes nothing.
+use mathlib.Core.Path.{◌≡◌}
+use mathlib.Core.Bool.{true}
+use Prim.Native.Nat.{◌-◌, ◌≤◌}
+use Rattle.rows.specs.Rows.{all}
+use Rattle.rules.specs.Json.{node_keys_differ}
+use Rattle.rows.proofs.Every.{all_none, all_more, all_broken, all_ended}
+use borrow.Author.Rules.{rules}
+use Rattle.distinct.proofs.keys.all_keys_differ_since.Given as goal
+
+abbrev pub invariant-loop-row : goal.invariant-loop-row
+invariant-loop-row l = (l.row ≤ l.rows) × (all (node_keys_differ l.pool l.nodes) l.row ≡ true)
+
+abbrev pub decreases-loop-row : goal.decreases-loop-row
+decreases-loop-row l = l.rows - l.row

@@ -1,0 +1,17 @@
+-- As long as the end is 0, the nodes passed are plain. Assumes nothing.
+use mathlib.Core.Path.{◌≡◌, refl, sym}
+use mathlib.Core.Bool.{true}
+use Prim.Native.Nat.{◌-◌, ◌≤◌}
+use native.Mathlib.Omega.{arith}
+use borrow.Author.Tests.{lt-ltb}
+use Rattle.rows.specs.Rows.{all}
+use Rattle.distinct.specs.Plain.{is_plain}
+use Rattle.rows.proofs.Every.{all_none, all_more}
+use borrow.Author.Rules.{rules}
+use Rattle.distinct.proofs.keys.end_of_children.Given as goal
+
+abbrev pub invariant-loop-row : goal.invariant-loop-row
+invariant-loop-row l = (l.row ≤ l.rows) × (l.end ≤ 4096) × (l.end ≡ 0 → all (is_plain l.nodes) l.row ≡ true)
+
+abbrev pub decreases-loop-row : goal.decreases-loop-row
+decreases-loop-row l = l.rows - l.row

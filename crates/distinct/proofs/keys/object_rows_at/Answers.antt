@@ -1,0 +1,13 @@
+-- The kind tells whether the node is an object. Assumes nothing.
+use Rattle.rows.specs.Json.{node_at}
+use Rattle.distinct.proofs.Plain.{no_object}
+use borrow.Author.Rules.{rules}
+use Rattle.distinct.proofs.keys.object_rows_at.Goals as goal
+
+pub returns-then-cell-ne8 : goal.returns-then-cell-ne8
+unfolding node_at
+returns-then-cell-ne8 c = no_object _ _ _ (rw c.cell.ensures at c.if-cell-ne8.true)
+
+pub returns : goal.returns
+unfolding node_at
+returns c = rw (← c.cell.ensures, c.if-cell-ne8.false, c.cell-3.ensures, c.cell-2.ensures)

@@ -1,0 +1,21 @@
+-- The mark of the set says whether it is free, and is set then. Assumes nothing.
+use native.Mathlib.Omega.{arith}
+use Rattle.distinct.proofs.Marked.{fragment-past, fragment-marked, fragment-told}
+use borrow.Author.Rules.{rules}
+use Rattle.distinct.proofs.owners.fragment_claims.Goals as goal
+
+pub returns-then-set-ge4096 : goal.returns-then-set-ge4096
+returns-then-set-ge4096 c = record { value = c.fragment_owns_alone_lem.ensures; marked = fragment-past _ _ _ _ c.requires (rw c.fragment_at-fragment.ensures at c.if-set-ge4096.true) }
+
+pub bounds-marks-at : goal.bounds-marks-at
+bounds-marks-at c = omega (arith, c.requires.sized)
+
+pub bounds-marks-at-2 : goal.bounds-marks-at-2
+bounds-marks-at-2 c = omega (arith, c.requires.sized)
+
+pub returns : goal.returns
+returns c = rw c.fragment_at-fragment.ensures (
+  fragment-told _ _ _ _ c.requires (rw c.fragment_at-fragment.ensures at c.if-set-ge4096.false),
+  fragment-marked _ _ _ _ c.requires
+      (rw c.fragment_at-fragment.ensures at c.if-set-ge4096.false),
+)

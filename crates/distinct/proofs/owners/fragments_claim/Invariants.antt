@@ -1,0 +1,18 @@
+-- Each row passed owns its set alone, and the marks follow; one that does not ends the search. Assumes nothing.
+use mathlib.Core.Path.{◌≡◌, sym, ◌∙◌}
+use mathlib.Core.Bool.{true}
+use Prim.Native.Nat.{◌-◌, ◌≤◌}
+use Rattle.rows.specs.Rows.{all}
+use Rattle.rules.specs.Document.{fragment_owns_alone}
+use Rattle.rows.proofs.Every.{all_none, all_more, all_broken, all_ended}
+use Rattle.distinct.specs.Marks.{Marked, free_of_fragments}
+use borrow.Author.Rules.{rules}
+use Rattle.distinct.proofs.owners.fragments_claim.Given as goal
+
+abbrev pub invariant-loop-row : goal.invariant-loop-row
+invariant-loop-row l = (l.row ≤ l.rows)
+    × (all (fragment_owns_alone l.selections l.fragments) l.row ≡ true)
+    × Marked (free_of_fragments l.selections l.fragments l.row) l.marks
+
+abbrev pub decreases-loop-row : goal.decreases-loop-row
+decreases-loop-row l = l.rows - l.row

@@ -1,0 +1,28 @@
+-- What is passed on the way back differs from the row; a row that is the same ends it. Assumes nothing.
+use Prim.Native.Nat.{◌-◌}
+use native.Mathlib.Omega.{arith}
+use Rattle.distinct.specs.Differ.{Cursor}
+use Rattle.distinct.specs.Texts.{other_text, text_chain}
+use Rattle.rows.proofs.Every.{falsified, verified}
+use Rattle.distinct.proofs.Chains.{cursor_step, cursor_found, cursor_end}
+use Rattle.distinct.proofs.HashLaws.{chain_other}
+use borrow.Author.Rules.{rules}
+use Rattle.distinct.proofs.texts.after_last_same.Goals as goal
+
+pub returns-then-not-is_other : goal.returns-then-not-is_other
+returns-then-not-is_other c = cursor_found _ _ (chain_other _ _ _ _) _ _ _ c.loop-cursor.invariant c.loop-cursor-test.true
+    (falsified c.is_other.result _ c.is_other.ensures c.if-not-is_other.true-raw)
+
+pub overflow_cast-cursor : goal.overflow_cast-cursor
+overflow_cast-cursor c = omega (arith, c.type_inv.next (c.loop-cursor.cursor - 1))
+
+pub loop-cursor-smaller : goal.loop-cursor-smaller
+loop-cursor-smaller c = omega (arith, (c.requires.links.linked (c.loop-cursor.cursor - 1) (omega arith)).high)
+
+pub loop-cursor-preserved : goal.loop-cursor-preserved
+loop-cursor-preserved c = cursor_step _ _ (chain_other _ _ _ _) _ _ _ c.loop-cursor.invariant (omega arith)
+    (verified c.is_other.result _ c.is_other.ensures c.if-not-is_other.false-raw)
+    (c.requires.links.linked (c.loop-cursor.cursor - 1) (omega arith))
+
+pub returns : goal.returns
+returns c = cursor_end _ _ (chain_other _ _ _ _) _ _ _ c.loop-cursor.invariant c.loop-cursor-test.false (omega arith)

@@ -1,0 +1,19 @@
+-- What is kept follows the rows. Assumes nothing.
+use mathlib.Core.Path.{◌≡◌, refl, ◌∙◌}
+use Prim.Native.Nat.{◌-◌, ◌≤◌}
+use native.Mathlib.Omega.{arith}
+use lib.ListN.{length}
+use Rattle.distinct.specs.Texts.{Kept}
+use borrow.Author.Rules.{rules}
+use Rattle.distinct.proofs.texts.note_texts.Given as goal
+
+abbrev pub invariant-loop-row : goal.invariant-loop-row
+invariant-loop-row l = (l.row ≤ l.count)
+    × (length l.heads ≡ length l.initial.heads)
+    × (length l.next ≡ length l.initial.next)
+    × (length l.hashes ≡ length l.initial.hashes)
+    × (length l.since ≡ length l.initial.since)
+    × Kept l.pool l.t l.width l.column l.row l.heads l.next l.hashes l.since
+
+abbrev pub decreases-loop-row : goal.decreases-loop-row
+decreases-loop-row l = l.count - l.row

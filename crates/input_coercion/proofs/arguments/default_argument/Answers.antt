@@ -1,0 +1,13 @@
+-- There is a default, or the argument is missing, or it may be. Assumes nothing.
+use borrow.Author.Rules.{rules}
+use Rattle.input_coercion.proofs.Arguing.{defaults}
+use Rattle.input_coercion.proofs.arguments.default_argument.Goals as goal
+
+pub returns-then-is_non_null : goal.returns-then-is_non_null
+returns-then-is_non_null c = search defaults
+
+pub returns-in-Row : goal.returns-in-Row
+returns-in-Row c = search defaults
+
+pub returns-else-is_non_null : goal.returns-else-is_non_null
+returns-else-is_non_null c = search defaults

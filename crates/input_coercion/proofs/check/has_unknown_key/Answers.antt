@@ -1,0 +1,18 @@
+-- The keys passed have a field each; the first that has none ends the search. Assumes nothing.
+use Prim.Native.Nat.{◌-◌}
+use borrow.Author.Rules.{rules}
+use Rattle.lookup.proofs.Searching.{Seeking}
+use Rattle.input_coercion.proofs.Keys.{unknown, keys}
+use Rattle.input_coercion.proofs.check.has_unknown_key.Goals as goal
+
+pub loop-i-init : goal.loop-i-init
+loop-i-init c = search keys
+
+pub returns-in_default : goal.returns-in_default
+returns-in_default c = search (keys, rules)
+
+pub loop-i-preserved : goal.loop-i-preserved
+loop-i-preserved c = search (keys, rules)
+
+pub returns : goal.returns
+returns c = search (keys, rules)

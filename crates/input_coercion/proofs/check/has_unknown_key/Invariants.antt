@@ -1,0 +1,12 @@
+-- The keys passed have a field each; the first that has none ends the search. Assumes nothing.
+use Prim.Native.Nat.{◌-◌}
+use borrow.Author.Rules.{rules}
+use Rattle.lookup.proofs.Searching.{Seeking}
+use Rattle.input_coercion.proofs.Keys.{unknown, keys}
+use Rattle.input_coercion.proofs.check.has_unknown_key.Given as goal
+
+abbrev pub invariant-loop-i : goal.invariant-loop-i
+invariant-loop-i l = Seeking (unknown l.types l.fields l.literals l.ty) (record { l.first = l.first; l.count = l.count }) l.i
+
+abbrev pub decreases-loop-i : goal.decreases-loop-i
+decreases-loop-i l = l.count - l.i

@@ -1,0 +1,12 @@
+-- The rows passed have other words; the first that has this one ends the search. Assumes nothing.
+use Prim.Native.Nat.{◌-◌}
+use borrow.Author.Rules.{rules}
+use Rattle.lookup.specs.Found.{has_word}
+use Rattle.lookup.proofs.Searching.{Seeking, seeking}
+use Rattle.lookup.proofs.find.find_word.Given as goal
+
+abbrev pub invariant-loop-i : goal.invariant-loop-i
+invariant-loop-i l = Seeking (has_word l.t l.width l.column l.word) (record { l.first = l.first; l.count = l.count }) l.i
+
+abbrev pub decreases-loop-i : goal.decreases-loop-i
+decreases-loop-i l = l.count - l.i

@@ -1,0 +1,12 @@
+-- The members passed have other names; the first that has this one ends the search. Assumes nothing.
+use Prim.Native.Nat.{◌-◌}
+use borrow.Author.Rules.{rules}
+use Rattle.lookup.specs.Found.{is_named}
+use Rattle.lookup.proofs.Searching.{Seeking, members}
+use Rattle.lookup.proofs.named.is_member.Given as goal
+
+abbrev pub invariant-loop-i : goal.invariant-loop-i
+invariant-loop-i l = Seeking (is_named l.pool l.names l.members l.string) (record { l.first = l.first; l.count = l.count }) l.i
+
+abbrev pub decreases-loop-i : goal.decreases-loop-i
+decreases-loop-i l = l.count - l.i

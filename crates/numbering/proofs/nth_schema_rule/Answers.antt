@@ -1,0 +1,11 @@
+-- The number says which; past the end of the list stands its last. Assumes nothing.
+use mathlib.Core.Path.{sym}
+use lib.ListN.{get_or-eq_default}
+use Rattle.tables.specs.Rules.{schema_rules}
+use Rattle.tables.specs.declared.rule.SchemaRule.TheVariants.{RootType}
+use Rattle.numbering.proofs.Counting.{past_all}
+use borrow.Author.Rules.{rules}
+use Rattle.numbering.proofs.nth_schema_rule.Goals as goal
+
+pub returns-in_default : goal.returns-in_default
+returns-in_default c = sym (get_or-eq_default schema_rules RootType (past_all 13 c.args.k c.in_default.in_default-own.rest))

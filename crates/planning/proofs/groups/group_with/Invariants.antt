@@ -1,0 +1,11 @@
+-- The groups passed have other keys. Assumes nothing.
+use Prim.Native.Nat.{◌-◌}
+use Rattle.planning.proofs.Words.{Seeking, seeking}
+use borrow.Author.Rules.{rules}
+use Rattle.planning.proofs.groups.group_with.Given as goal
+
+abbrev pub invariant-loop-i : goal.invariant-loop-i
+invariant-loop-i l = Seeking l.plans l.first l.groups l.key l.i
+
+abbrev pub decreases-loop-i : goal.decreases-loop-i
+decreases-loop-i l = l.groups - l.i

@@ -1,0 +1,18 @@
+-- To the group that has the key, or to a new one. Assumes nothing.
+use Rattle.planning.proofs.Grouped.{word_fits, name_fits, key_fits, field-old, field-new}
+use native.Mathlib.Omega.{arith}
+use borrow.Author.Rules.{rules}
+use Rattle.planning.proofs.groups.put_field.Goals as goal
+
+pub overflow_cast-selection : goal.overflow_cast-selection
+overflow_cast-selection c = search (word_fits, rules)
+
+pub returns-then-group-groups : goal.returns-then-group-groups
+returns-then-group-groups c = field-old c.before.args.i c.before.requires.0 c.field-selection.ensures c.group_with-group.ensures c.if-group-groups.true
+
+pub put_group-requires : goal.put_group-requires
+put_group-requires c = record { referred = (c.before.requires.0.fitting.referred, c.before.requires.0.fitting.defined c.before.args.object); row_in_bounds = (omega (arith, c.before.requires.0.room, c.before.requires.1), name_fits c.before.args.i c.before.requires.0 c.field-selection.ensures, key_fits c.before.args.i c.before.requires.0 c.field-selection.ensures) }
+
+pub returns : goal.returns
+returns c = field-new c.before.args.i c.before.requires.0 c.field-selection.ensures c.group_with-group.ensures c.if-group-groups.false
+    c.put_group.ensures

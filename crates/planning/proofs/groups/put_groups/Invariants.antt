@@ -1,0 +1,12 @@
+-- The groups of the fields passed stand. Assumes nothing.
+use Prim.Native.Nat.{◌-◌, ◌≤◌}
+use Rattle.planning.specs.Plans.{Grouping}
+use Rattle.planning.proofs.Grouped.{grouping}
+use borrow.Author.Rules.{rules}
+use Rattle.planning.proofs.groups.put_groups.Given as goal
+
+abbrev pub invariant-loop-i : goal.invariant-loop-i
+invariant-loop-i l = Grouping l.type_refs l.types l.fields l.selections l.list l.object l.first l.initial.plans l.plans l.owners l.groups l.i × (l.i ≤ l.count)
+
+abbrev pub decreases-loop-i : goal.decreases-loop-i
+decreases-loop-i l = l.count - l.i

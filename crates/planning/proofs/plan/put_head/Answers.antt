@@ -1,0 +1,21 @@
+-- The five words of the head are put one behind the other. Assumes nothing.
+use native.Mathlib.Omega.{arith}
+use lib.ListN.{length-set}
+use Rattle.planning.proofs.Words.{put_head}
+use borrow.Author.Rules.{rules}
+use Rattle.planning.proofs.plan.put_head.Goals as goal
+
+pub bounds-plans-at-2 : goal.bounds-plans-at-2
+bounds-plans-at-2 c = simp length-set (omega arith)
+
+pub bounds-plans-at-3 : goal.bounds-plans-at-3
+bounds-plans-at-3 c = simp length-set (omega arith)
+
+pub bounds-plans-at-4 : goal.bounds-plans-at-4
+bounds-plans-at-4 c = simp length-set (omega arith)
+
+pub bounds-plans-at-5 : goal.bounds-plans-at-5
+bounds-plans-at-5 c = simp length-set (omega arith)
+
+pub returns : goal.returns
+returns c = search (put_head, rules)

@@ -1,0 +1,7 @@
+use Rattle.rows.specs.Schema.{type_ref_at}
+use borrow.Author.Rules.{rules}
+use Rattle.rows.proofs.schema.type_ref_at.Goals as goal
+
+pub returns : goal.returns
+unfolding type_ref_at
+returns c = rw (c.type_ref_of.ensures, c.cell-of.ensures, c.cell-non_null.ensures, c.cell-kind.ensures)

@@ -1,0 +1,15 @@
+-- Texts are the same just if what is left of them is, behind parts that are; and where the last bytes are the same too, all are.
+-- Assumes nothing.
+use mathlib.Core.Path.{◌≡◌}
+use Prim.Native.Nat.{◌-◌, ◌<◌}
+use lib.ListN.{length, drop}
+use Rattle.rows.specs.Strings.{same}
+use Rattle.rows.proofs.Same.{parts_alike, ends_alike, block_differs, block_same, block_last}
+use borrow.Author.Rules.{rules}
+use Rattle.rows.proofs.strings.is_same_by.Given as goal
+
+abbrev pub invariant-loop-i : goal.invariant-loop-i
+invariant-loop-i l = (l.i < length l.a) × (same l.a l.b ≡ same (drop l.i l.a) (drop l.i l.b))
+
+abbrev pub decreases-loop-i : goal.decreases-loop-i
+decreases-loop-i l = length l.a - l.i

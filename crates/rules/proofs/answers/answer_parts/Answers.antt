@@ -1,0 +1,5 @@
+use borrow.Author.Rules.{rules}
+use Rattle.rules.proofs.answers.answer_parts.Goals as goal
+
+pub returns-in-Object : goal.returns-in-Object
+returns-in-Object c = rw (c.in-Object.is, c.is_distinct.ensures)

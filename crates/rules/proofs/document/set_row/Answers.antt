@@ -1,0 +1,5 @@
+use borrow.Author.Rules.{rules}
+use Rattle.rules.proofs.document.set_row.Goals as goal
+
+pub returns : goal.returns
+returns c = rw (c.is_Within.ensures, c.set_at.ensures)

@@ -1,0 +1,16 @@
+use borrow.Author.Tests.{ne_eqb}
+use Rattle.rules.proofs.Words.{option_row}
+use borrow.Author.Rules.{rules}
+use Rattle.rules.proofs.document.what_is_lawful.Goals as goal
+
+pub returns-in-0 : goal.returns-in-0
+returns-in-0 c = rw (c.in-0.is, c.is_Within.ensures)
+
+pub returns-in-1 : goal.returns-in-1
+returns-in-1 c = rw c.in-1.is
+
+pub returns-in-2 : goal.returns-in-2
+returns-in-2 c = rw (c.in-2.is, option_row)
+
+pub returns-in_default : goal.returns-in_default
+returns-in_default c = simp (ne_eqb _ _ c.in_default.in_default-own.rest.1, ne_eqb _ _ c.in_default.in_default-own.rest.0.1, ne_eqb _ _ c.in_default.in_default-own.rest.0.0.1)

@@ -1,0 +1,15 @@
+-- The rows passed have another key each; one that has the same key ends the search. Assumes nothing.
+use mathlib.Core.Path.{◌≡◌}
+use mathlib.Core.Bool.{true}
+use Prim.Native.Nat.{◌≤◌, ◌-◌, ◌+◌}
+use borrow.Author.Rules.{rules}
+use Rattle.rows.specs.Rows.{all}
+use Rattle.rules.specs.Json.{other_key, key_new}
+use Rattle.rows.proofs.Every.{every}
+use Rattle.rules.proofs.keys.is_new_key.Given as goal
+
+abbrev pub invariant-loop-j : goal.invariant-loop-j
+invariant-loop-j l = (l.j ≤ l.i) × (all (λ k. other_key l.pool l.nodes (l.first + l.i) (l.first + k)) l.j ≡ true)
+
+abbrev pub decreases-loop-j : goal.decreases-loop-j
+decreases-loop-j l = l.i - l.j

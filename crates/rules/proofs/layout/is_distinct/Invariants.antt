@@ -1,0 +1,17 @@
+-- Each row passed is new, and its word is marked; a row that is not new ends the search. Assumes nothing.
+use mathlib.Core.Path.{◌≡◌}
+use mathlib.Core.Bool.{true}
+use Prim.Native.Nat.{◌≤◌, ◌-◌}
+use borrow.Author.Rules.{rules}
+use Rattle.rows.specs.Rows.{all}
+use Rattle.rules.specs.Rows.{is_new, distinct}
+use Rattle.rules.specs.Marks.{Met}
+use Rattle.rows.proofs.Every.{all_none, all_more, all_broken, all_ended}
+use Rattle.rules.proofs.Marks.{met_none}
+use Rattle.rules.proofs.layout.is_distinct.Given as goal
+
+abbrev pub invariant-loop-i : goal.invariant-loop-i
+invariant-loop-i l = (l.i ≤ l.count) × (all (is_new l.t l.width l.column l.first) l.i ≡ true) × Met l.t l.width l.column l.first l.i l.marks
+
+abbrev pub decreases-loop-i : goal.decreases-loop-i
+decreases-loop-i l = l.count - l.i

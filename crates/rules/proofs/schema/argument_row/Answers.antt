@@ -1,0 +1,7 @@
+use Rattle.rows.specs.Schema.{argument_at}
+use borrow.Author.Rules.{rules}
+use Rattle.rules.proofs.schema.argument_row.Goals as goal
+
+pub returns : goal.returns
+unfolding argument_at
+returns c = rw (c.is_typed.ensures, c.cell-default.ensures, c.cell-ty.ensures, c.cell-name.ensures)

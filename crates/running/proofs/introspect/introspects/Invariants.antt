@@ -1,0 +1,11 @@
+-- The rows passed do not ask for the schema; the first that does ends the search. Assumes nothing.
+use Prim.Native.Nat.{◌-◌}
+use borrow.Author.Rules.{rules}
+use Rattle.running.proofs.Asking.{Unasked, asking-schema}
+use Rattle.running.proofs.introspect.introspects.Given as goal
+
+abbrev pub invariant-loop-row : goal.invariant-loop-row
+invariant-loop-row l = Unasked l.selections l.count l.row
+
+abbrev pub decreases-loop-row : goal.decreases-loop-row
+decreases-loop-row l = l.count - l.row

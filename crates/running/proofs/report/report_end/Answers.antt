@@ -1,0 +1,13 @@
+-- Done, stopped or failed: the walk says which it was. Assumes nothing.
+use Rattle.running.proofs.Ended.{end_placed, end_stopped, end_failed}
+use borrow.Author.Rules.{rules}
+use Rattle.running.proofs.report.report_end.Goals as goal
+
+pub returns-in_default : goal.returns-in_default
+returns-in_default c = search end_placed
+
+pub returns-in-Stop : goal.returns-in-Stop
+returns-in-Stop c = search end_stopped
+
+pub returns : goal.returns
+returns c = search end_failed

@@ -1,0 +1,10 @@
+-- The rows passed are below the number of rows. Assumes nothing.
+use Prim.Native.Nat.{◌≤◌, ◌-◌}
+use borrow.Author.Rules.{rules}
+use Rattle.table_file.proofs.names.find_name.Given as goal
+
+abbrev pub invariant-loop-row : goal.invariant-loop-row
+invariant-loop-row l = l.row ≤ l.rows
+
+abbrev pub decreases-loop-row : goal.decreases-loop-row
+decreases-loop-row l = l.rows - l.row

@@ -1,0 +1,16 @@
+use mathlib.Core.Path.{◌≡◌, ◌∙◌}
+use Rattle.rows.specs.Layout.{answer_width}
+use Rattle.rows.specs.Rows.{cell}
+use Rattle.rows.specs.Answers.{answer_at}
+use Rattle.tables.proofs.Parts.{no_names}
+use borrow.Author.Rules.{rules}
+use Rattle.tables.proofs.data.answer_names_differ_since.Goals as goal
+
+pub returns-then-word-ne4 : goal.returns-then-word-ne4
+unfolding answer_at
+returns-then-word-ne4 c = let n : cell c.args.answers.now answer_width c.args.row 0 ≡ 4 → ⊥ = λ e. c.if-word-ne4.true (c.word.ensures ∙ e) in
+    no_names _ _ _ _ _ n
+
+pub returns : goal.returns
+unfolding answer_at
+returns c = rw (← c.word.ensures, c.if-word-ne4.false, ← c.word-2.ensures, ← c.word-3.ensures) c.is_distinct_since.ensures

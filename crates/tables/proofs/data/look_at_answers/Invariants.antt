@@ -1,0 +1,12 @@
+use Prim.Native.Nat.{◌≤◌, ◌-◌}
+use borrow.Author.Rules.{rules}
+use Rattle.rules.specs.Answers.{answer_row}
+use Rattle.tables.specs.ByTable.{plain_answer}
+use Rattle.tables.proofs.Looked.{Passed, passed_none, passed_more, looked_broken, looked_ended}
+use Rattle.tables.proofs.data.look_at_answers.Given as goal
+
+abbrev pub invariant-loop-row : goal.invariant-loop-row
+invariant-loop-row l = (l.row ≤ l.count) × Passed (answer_row l.names l.nodes l.count l.answers) (plain_answer l.answers) l.row l.plain
+
+abbrev pub decreases-loop-row : goal.decreases-loop-row
+decreases-loop-row l = l.count - l.row

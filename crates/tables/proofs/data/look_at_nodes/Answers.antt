@@ -1,0 +1,19 @@
+use Prim.Native.Nat.{◌≤◌, ◌-◌}
+use borrow.Author.Rules.{rules}
+use Rattle.distinct.specs.Plain.{is_plain}
+use Rattle.tables.specs.ByTable.{node_holds}
+use Rattle.tables.proofs.Looked.{Passed, passed_none, passed_more, looked_broken, looked_ended}
+use Rattle.tables.proofs.data.look_at_nodes.Goals as goal
+
+pub loop-row-init : goal.loop-row-init
+loop-row-init c = (search rules, passed_none _ _)
+
+pub returns-then-not-node_holds : goal.returns-then-not-node_holds
+returns-then-not-node_holds c = rw (← c.row_count-count.ensures)
+    (looked_broken _ _ c.loop-row.row _ c.node_holds.result c.loop-row-test.true c.node_holds.ensures c.if-not-node_holds.true-raw)
+
+pub loop-row-preserved : goal.loop-row-preserved
+loop-row-preserved c = (search rules, passed_more _ _ c.loop-row.row c.loop-row.plain c.node_holds.result c.node_is_plain-plain.result c.loop-row.invariant.1 c.node_holds.ensures c.if-not-node_holds.false-raw c.node_is_plain-plain.ensures)
+
+pub returns : goal.returns
+returns c = rw (← c.row_count-count.ensures) (looked_ended _ _ c.loop-row.row _ c.loop-row.plain c.loop-row.invariant.1 c.loop-row.invariant.0 c.loop-row-test.false)

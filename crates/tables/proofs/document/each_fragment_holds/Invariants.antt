@@ -1,0 +1,14 @@
+use mathlib.Core.Path.{◌≡◌}
+use mathlib.Core.Bool.{true}
+use Prim.Native.Nat.{◌≤◌, ◌-◌}
+use borrow.Author.Rules.{rules}
+use Rattle.rows.specs.Rows.{all}
+use Rattle.rules.specs.Document.{fragment_row}
+use Rattle.rows.proofs.Every.{all_none, all_more, all_broken, all_ended}
+use Rattle.tables.proofs.document.each_fragment_holds.Given as goal
+
+abbrev pub invariant-loop-row : goal.invariant-loop-row
+invariant-loop-row l = (l.row ≤ l.count) × (all (fragment_row l.names l.sets l.fragments) l.row ≡ true)
+
+abbrev pub decreases-loop-row : goal.decreases-loop-row
+decreases-loop-row l = l.count - l.row

@@ -1,0 +1,21 @@
+use mathlib.Core.Path.{◌≡◌}
+use mathlib.Core.Bool.{true}
+use Prim.Native.Nat.{◌≤◌, ◌-◌}
+use borrow.Author.Rules.{rules}
+use Rattle.rows.specs.Rows.{all}
+use Rattle.tables.specs.ByTable.{selection_holds}
+use Rattle.rows.proofs.Every.{all_none, all_more, all_broken, all_ended}
+use Rattle.tables.proofs.document.each_selection_holds.Goals as goal
+
+pub loop-row-init : goal.loop-row-init
+loop-row-init c = (search rules, all_none _)
+
+pub returns-then-not-selection_holds : goal.returns-then-not-selection_holds
+returns-then-not-selection_holds c = rw (← c.row_count-count.ensures)
+    (all_broken _ c.loop-row.row _ c.selection_holds.result c.loop-row-test.true c.selection_holds.ensures c.if-not-selection_holds.true-raw)
+
+pub loop-row-preserved : goal.loop-row-preserved
+loop-row-preserved c = (search rules, all_more _ c.loop-row.row c.selection_holds.result c.loop-row.invariant.1 c.selection_holds.ensures c.if-not-selection_holds.false-raw)
+
+pub returns : goal.returns
+returns c = rw (← c.row_count-count.ensures) (all_ended _ c.loop-row.row _ c.loop-row.invariant.1 c.loop-row.invariant.0 c.loop-row-test.false)

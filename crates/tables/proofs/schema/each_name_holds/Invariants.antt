@@ -1,0 +1,14 @@
+use mathlib.Core.Path.{◌≡◌}
+use mathlib.Core.Bool.{true}
+use Prim.Native.Nat.{◌≤◌, ◌-◌}
+use borrow.Author.Rules.{rules}
+use Rattle.rows.specs.Rows.{all}
+use Rattle.tables.specs.ByTable.{name_holds}
+use Rattle.rows.proofs.Every.{all_none, all_more, all_broken, all_ended}
+use Rattle.tables.proofs.schema.each_name_holds.Given as goal
+
+abbrev pub invariant-loop-row : goal.invariant-loop-row
+invariant-loop-row l = (l.row ≤ l.count) × (all (name_holds l.pool l.names) l.row ≡ true)
+
+abbrev pub decreases-loop-row : goal.decreases-loop-row
+decreases-loop-row l = l.count - l.row

@@ -1,0 +1,5 @@
+use borrow.Author.Rules.{rules}
+use Rattle.tables.proofs.schema.member_holds.Goals as goal
+
+pub returns : goal.returns
+returns c = rw c.word.ensures

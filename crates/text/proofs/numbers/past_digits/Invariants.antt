@@ -1,0 +1,14 @@
+-- Digits that are taken one by one leave the text that all of them leave. Assumes nothing.
+use mathlib.Core.Path.{◌≡◌, refl}
+use Prim.Native.Nat.{◌-◌}
+use lib.ListN.{length, drop}
+use Rattle.text.specs.Numbers.{digits}
+use Rattle.text.proofs.numbers.Parts.{digits_stopped, digits_more, digits_over}
+use borrow.Author.Rules.{rules}
+use Rattle.text.proofs.numbers.past_digits.Given as goal
+
+abbrev pub invariant-loop-i : goal.invariant-loop-i
+invariant-loop-i l = digits (drop l.at l.s) ≡ digits (drop l.i l.s)
+
+abbrev pub decreases-loop-i : goal.decreases-loop-i
+decreases-loop-i l = length l.s - l.i

@@ -1,0 +1,29 @@
+-- Of a sequence that is half read, the number so far and what is still to come decide. Assumes nothing.
+use Prim.Native.Nat.{◌+◌, ◌-◌}
+use Rattle.text.proofs.utf8.Decoding.{Half, read_short, leads_small, half_begun, half_fits, half_refused, half_more, read_whole, read_not_allowed}
+use borrow.Author.Rules.{rules}
+use Rattle.text.proofs.utf8.decode_sequence.Goals as goal
+
+pub returns-then-s-at : goal.returns-then-s-at
+returns-then-s-at c = search read_short
+
+pub lead_bits-point-requires : goal.lead_bits-point-requires
+lead_bits-point-requires c = search leads_small
+
+pub loop-i-init : goal.loop-i-init
+loop-i-init c = search half_begun
+
+pub returns-then-not-is_tail : goal.returns-then-not-is_tail
+returns-then-not-is_tail c = search half_refused
+
+pub with_tail-point-requires : goal.with_tail-point-requires
+with_tail-point-requires c = search half_fits
+
+pub loop-i-preserved : goal.loop-i-preserved
+loop-i-preserved c = search half_more
+
+pub returns-then-is_allowed : goal.returns-then-is_allowed
+returns-then-is_allowed c = search read_whole
+
+pub returns : goal.returns
+returns c = search read_not_allowed

@@ -1,0 +1,16 @@
+-- The bytes that are read are those of the text, in their order. Assumes nothing.
+use mathlib.Core.Path.{refl}
+use Prim.Native.Nat.{◌-◌}
+use native.Mathlib.Omega.{arith}
+use Rattle.writing.proofs.Blocks.{Reading, read_more, read_all}
+use borrow.Author.Rules.{rules}
+use Rattle.tokens.proofs.json.block_at.Goals as goal
+
+pub loop-i-init : goal.loop-i-init
+loop-i-init c = record { long = refl; within = omega arith; read = refl }
+
+pub loop-i-preserved : goal.loop-i-preserved
+loop-i-preserved c = search read_more
+
+pub returns : goal.returns
+returns c = search read_all

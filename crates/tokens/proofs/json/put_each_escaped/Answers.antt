@@ -1,0 +1,19 @@
+-- A string that has one byte more is written with the escape of that byte behind it. Assumes nothing.
+use mathlib.Core.Path.{refl}
+use Prim.Native.Nat.{◌-◌}
+use lib.ListN.{length}
+use borrow.Author.Rules.{rules}
+use Rattle.tokens.specs.Escape.{escaped, escaped_all}
+use Rattle.tokens.proofs.EscapeLaws.{escaped_all_snoc}
+use Rattle.writing.proofs.Putting.{Putting, put_begin, put_again, put_end}
+use Rattle.tokens.proofs.json.put_each_escaped.Goals as goal
+
+pub loop-i-init : goal.loop-i-init
+unfolding escaped_all
+loop-i-init c = put_begin refl _ _ _
+
+pub loop-i-preserved : goal.loop-i-preserved
+loop-i-preserved c = put_again escaped escaped_all_snoc c.loop-i.invariant c.loop-i-test.true c.put_escaped-next.ensures
+
+pub returns : goal.returns
+returns c = put_end c.loop-i.invariant c.loop-i-test.false

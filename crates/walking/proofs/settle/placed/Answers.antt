@@ -1,0 +1,6 @@
+-- The state is the one that was moved. Assumes nothing.
+use borrow.Author.Rules.{rules}
+use Rattle.walking.proofs.settle.placed.Goals as goal
+
+pub returns : goal.returns
+returns c = rw c.moved.ensures
