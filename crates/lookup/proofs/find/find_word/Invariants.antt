@@ -6,7 +6,7 @@ use Rattle.lookup.proofs.Searching.{Seeking, seeking}
 use Rattle.lookup.proofs.find.find_word.Given as goal
 
 abbrev pub invariant-loop-i : goal.invariant-loop-i
-invariant-loop-i l = Seeking (has_word l.t l.width l.column l.word) (record { l.first = l.first; l.count = l.count }) l.i
+invariant-loop-i l = Seeking (has_word l.t l.width l.column l.word) (record { first = l.first; count = l.count }) l.i
 
 abbrev pub decreases-loop-i : goal.decreases-loop-i
 decreases-loop-i l = l.count - l.i
