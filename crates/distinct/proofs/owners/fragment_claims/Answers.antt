@@ -5,7 +5,7 @@ use borrow.Author.Rules.{rules}
 use Rattle.distinct.proofs.owners.fragment_claims.Goals as goal
 
 pub returns-then-set-ge4096 : goal.returns-then-set-ge4096
-returns-then-set-ge4096 c = record { value = c.fragment_owns_alone_lem.ensures; marked = fragment-past _ _ _ _ c.requires (rw c.fragment_at-fragment.ensures at c.if-set-ge4096.true) }
+returns-then-set-ge4096 c = record { value = c.fragment_owns_alone.ensures; marked = fragment-past _ _ _ _ c.requires (rw c.fragment_at-fragment.ensures at c.if-set-ge4096.true) }
 
 pub bounds-marks-at : goal.bounds-marks-at
 bounds-marks-at c = omega (arith, c.requires.sized)

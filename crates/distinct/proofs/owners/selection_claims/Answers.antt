@@ -10,7 +10,7 @@ returns-in_default c = let e = sym c.owned_set-owned.ensures ∙ c.in_default.is
     record { value = rw e; marked = selection_absent _ _ _ c.requires e }
 
 pub returns-then-set-ge4096 : goal.returns-then-set-ge4096
-returns-then-set-ge4096 c = record { value = c.selection_owns_alone_lem.ensures; marked = selection-past _ _ _ c.requires _ (sym c.owned_set-owned.ensures ∙ c.in-Row.is) c.if-set-ge4096.true }
+returns-then-set-ge4096 c = record { value = c.selection_owns_alone.ensures; marked = selection-past _ _ _ c.requires _ (sym c.owned_set-owned.ensures ∙ c.in-Row.is) c.if-set-ge4096.true }
 
 pub bounds-marks-at : goal.bounds-marks-at
 bounds-marks-at c = omega (arith, c.requires.sized)

@@ -9,4 +9,4 @@ has_word-requires c = (omega arith, omega arith, rw c.type_at-def.ensures c.requ
 
 pub returns : goal.returns
 unfolding lists
-returns c = rw (← c.type_at-def.ensures) c.Has-word.ensures
+returns c = rw (← c.type_at-def.ensures) c.has_word.ensures

@@ -18,25 +18,25 @@ pub returns-in-NodeKey : goal.returns-in-NodeKey
 returns-in-NodeKey c = rw (c.in-NodeKey.is, c.node_key_row.ensures)
 
 pub returns-in-NodeKeysDiffer : goal.returns-in-NodeKeysDiffer
-returns-in-NodeKeysDiffer c = rw (c.in-NodeKeysDiffer.is, c.node_keys_differ_lem.ensures)
+returns-in-NodeKeysDiffer c = rw (c.in-NodeKeysDiffer.is, c.node_keys_differ.ensures)
 
 pub returns-in-LiteralRow : goal.returns-in-LiteralRow
-returns-in-LiteralRow c = rw (c.in-LiteralRow.is, c.literal_row_lem.ensures, c.row_count-in-LiteralRow-2.ensures, c.row_count-in-LiteralRow.ensures)
+returns-in-LiteralRow c = rw (c.in-LiteralRow.is, c.literal_row.ensures, c.row_count-in-LiteralRow-2.ensures, c.row_count-in-LiteralRow.ensures)
 
 pub returns-in-LiteralKeysDiffer : goal.returns-in-LiteralKeysDiffer
-returns-in-LiteralKeysDiffer c = rw (c.in-LiteralKeysDiffer.is, c.literal_keys_differ_lem.ensures)
+returns-in-LiteralKeysDiffer c = rw (c.in-LiteralKeysDiffer.is, c.literal_keys_differ.ensures)
 
 pub returns-in-VariableRow : goal.returns-in-VariableRow
-returns-in-VariableRow c = rw (c.in-VariableRow.is, c.variable_row_lem.ensures, c.row_count-in-VariableRow-2.ensures, c.row_count-in-VariableRow.ensures)
+returns-in-VariableRow c = rw (c.in-VariableRow.is, c.variable_row.ensures, c.row_count-in-VariableRow-2.ensures, c.row_count-in-VariableRow.ensures)
 
 pub returns-in-VariableNamesDiffer : goal.returns-in-VariableNamesDiffer
 returns-in-VariableNamesDiffer c = rw (c.in-VariableNamesDiffer.is, c.variable_name_is_new.ensures)
 
 pub returns-in-AnswerRow : goal.returns-in-AnswerRow
-returns-in-AnswerRow c = rw (c.in-AnswerRow.is, c.answer_row_lem.ensures, c.row_count-in-AnswerRow-3.ensures, c.row_count-in-AnswerRow-2.ensures, c.row_count-in-AnswerRow.ensures)
+returns-in-AnswerRow c = rw (c.in-AnswerRow.is, c.answer_row.ensures, c.row_count-in-AnswerRow-3.ensures, c.row_count-in-AnswerRow-2.ensures, c.row_count-in-AnswerRow.ensures)
 
 pub returns-in-AnswerNamesDiffer : goal.returns-in-AnswerNamesDiffer
-returns-in-AnswerNamesDiffer c = rw (c.in-AnswerNamesDiffer.is, c.answer_names_differ_lem.ensures)
+returns-in-AnswerNamesDiffer c = rw (c.in-AnswerNamesDiffer.is, c.answer_names_differ.ensures)
 
 pub returns-in-RootAnswer : goal.returns-in-RootAnswer
 returns-in-RootAnswer c = rw (c.in-RootAnswer.is, c.root_answer_is_object.ensures)

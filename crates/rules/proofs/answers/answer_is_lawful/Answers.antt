@@ -12,7 +12,7 @@ pub returns-in-2 : goal.returns-in-2
 returns-in-2 c = rw c.in-2.is
 
 pub returns-in-3 : goal.returns-in-3
-returns-in-3 c = rw (c.in-3.is, c.is_Within.ensures)
+returns-in-3 c = rw (c.in-3.is, c.is_within.ensures)
 
 pub returns-in-4 : goal.returns-in-4
 returns-in-4 c = rw (c.in-4.is, c.is_within-in-4.ensures)

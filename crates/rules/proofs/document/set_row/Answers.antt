@@ -2,4 +2,4 @@ use borrow.Author.Rules.{rules}
 use Rattle.rules.proofs.document.set_row.Goals as goal
 
 pub returns : goal.returns
-returns c = rw (c.is_Within.ensures, c.set_at.ensures)
+returns c = rw (c.is_within.ensures, c.set_at.ensures)

@@ -4,7 +4,7 @@ use borrow.Author.Rules.{rules}
 use Rattle.rules.proofs.document.what_is_lawful.Goals as goal
 
 pub returns-in-0 : goal.returns-in-0
-returns-in-0 c = rw (c.in-0.is, c.is_Within.ensures)
+returns-in-0 c = rw (c.in-0.is, c.is_within.ensures)
 
 pub returns-in-1 : goal.returns-in-1
 returns-in-1 c = rw c.in-1.is

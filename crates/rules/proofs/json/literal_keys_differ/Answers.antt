@@ -2,4 +2,4 @@ use borrow.Author.Rules.{rules}
 use Rattle.rules.proofs.json.literal_keys_differ.Goals as goal
 
 pub returns : goal.returns
-returns c = rw (c.literal_parts_lem.ensures, c.literal_at.ensures)
+returns c = rw (c.literal_parts.ensures, c.literal_at.ensures)

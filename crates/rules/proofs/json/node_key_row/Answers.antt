@@ -2,4 +2,4 @@ use borrow.Author.Rules.{rules}
 use Rattle.rules.proofs.json.node_key_row.Goals as goal
 
 pub returns : goal.returns
-returns c = rw (c.is_string.ensures, c.node_key_lem.ensures)
+returns c = rw (c.is_string.ensures, c.node_key.ensures)

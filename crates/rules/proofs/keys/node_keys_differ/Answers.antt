@@ -2,4 +2,4 @@ use borrow.Author.Rules.{rules}
 use Rattle.rules.proofs.keys.node_keys_differ.Goals as goal
 
 pub returns : goal.returns
-returns c = rw (c.keys_are_distinct.ensures, c.object_rows.ensures, c.Node-at.ensures)
+returns c = rw (c.keys_are_distinct.ensures, c.object_rows.ensures, c.node_at.ensures)

@@ -2,4 +2,4 @@ use borrow.Author.Rules.{rules}
 use Rattle.rules.proofs.layout.is_later.Goals as goal
 
 pub returns : goal.returns
-returns c = rw c.is_Within.ensures
+returns c = rw c.is_within.ensures

@@ -2,4 +2,4 @@ use borrow.Author.Rules.{rules}
 use Rattle.rules.proofs.schema.field_is_lawful.Goals as goal
 
 pub returns : goal.returns
-returns c = rw (c.is_Within.ensures, c.is_typed-typed.ensures)
+returns c = rw (c.is_within.ensures, c.is_typed-typed.ensures)

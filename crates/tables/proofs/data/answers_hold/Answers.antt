@@ -14,4 +14,4 @@ returns-then-seen c = rw (← c.look_at_answers-seen.ensures.lawful, turned_true
     (sym (all_each _ _ (λ row l. plain_differs _ row (all_at _ row _ l (c.look_at_answers-seen.ensures.plain c.if-seen.true)))))
 
 pub returns : goal.returns
-returns c = rw (← c.look_at_answers-seen.ensures.lawful, turned_true c.look_at_answers-seen.result.lawful c.if-not-seen.false) c.answer_names_differ_lem.ensures
+returns c = rw (← c.look_at_answers-seen.ensures.lawful, turned_true c.look_at_answers-seen.result.lawful c.if-not-seen.false) c.answer_names_differ.ensures

@@ -11,15 +11,15 @@ use Rattle.tables.proofs.document.set_holds.Goals as goal
 
 pub returns-then-not-set_row : goal.returns-then-not-set_row
 unfolding set_holds
-returns-then-not-set_row c = record { value = rw (← c.requires.count_value.0, ← c.set_row_lem.ensures, turned_false c.set_row_lem.result c.if-not-set_row.true-raw); skips_2 = c.requires.skips }
+returns-then-not-set_row c = record { value = rw (← c.requires.count_value.0, ← c.set_row.ensures, turned_false c.set_row.result c.if-not-set_row.true-raw); skips_2 = c.requires.skips }
 
 pub children_are_larger-requires : goal.children_are_larger-requires
 children_are_larger-requires c = let rows = set_at c.args.sets.now c.args.set in
     let within : rows.first + rows.count ≤ c.args.count =
     leb-true (rows.first + rows.count) c.args.count
-    (verified c.set_row_lem.result (set_row c.args.count c.args.sets.now c.args.set) c.set_row_lem.ensures c.if-not-set_row.false-raw) in
+    (verified c.set_row.result (set_row c.args.count c.args.sets.now c.args.set) c.set_row.ensures c.if-not-set_row.false-raw) in
     record { skips = c.requires.skips; count_bound = rw c.set_at.ensures (omega (arith, within, c.requires.count_value.1)) }
 
 pub returns : goal.returns
 unfolding set_holds
-returns c = record { value = rw (← c.requires.count_value.0, ← c.set_row_lem.ensures, turned_true c.set_row_lem.result c.if-not-set_row.false-raw, ← c.set_at.ensures) c.children_are_larger.ensures.0; skips_2 = c.children_are_larger.ensures.1 }
+returns c = record { value = rw (← c.requires.count_value.0, ← c.set_row.ensures, turned_true c.set_row.result c.if-not-set_row.false-raw, ← c.set_at.ensures) c.children_are_larger.ensures.0; skips_2 = c.children_are_larger.ensures.1 }

@@ -2,4 +2,4 @@ use borrow.Author.Rules.{rules}
 use Rattle.values.proofs.sort.sort_of.Goals as goal
 
 pub returns : goal.returns
-returns c = rw (c.sort_of_node.ensures, c.Node-at.ensures)
+returns c = rw (c.sort_of_node.ensures, c.node_at.ensures)
