@@ -1,0 +1,128 @@
+-- A literal at a type, written, by one induction: the containers that may still be opened fall. Assumes nothing.
+use Prim.Native.Nat.{ℕ, ◌+◌, ◌*◌, ◌-◌, ◌<◌}
+use borrow.Author.Rules.{rules}
+use Rattle.graphql.specs.Json.{containers}
+use Rattle.graphql.specs.Lookup.{rows_in}
+use Rattle.echoing.specs.Echo.{field_size, field_out, of_value, of_field}
+use Rattle.echoing.proofs.Loop.{Going}
+use Rattle.echoing.proofs.Fields.{item_out, items-again, items-stopped, fields-again, fields-stopped}
+use Rattle.input_coercion.proofs.Walk.{form_shaped, listable, keyed_within, few_declared}
+use Rattle.echoing.proofs.Walk.{literals_parted_lem, valuing, shaping, naming, itemizing, fielding, opening}
+use Rattle.echoing.proofs.echo.+put_coerced_put_input_field_put_input_object_put_items_put_named_put_shaped.Goals as goal
+
+pub put_coerced-put_shaped-requires : goal.put_coerced-put_shaped-requires
+put_coerced-put_shaped-requires t c = (search rules, (search rules, (search rules, search (form_shaped, rules))))
+
+pub put_coerced-returns-in-Null : goal.put_coerced-returns-in-Null
+put_coerced-returns-in-Null t c = search (valuing, rules)
+
+pub put_coerced-returns-in-Variable : goal.put_coerced-returns-in-Variable
+put_coerced-returns-in-Variable t c = search (valuing, rules)
+
+pub put_coerced-returns-in-Shaped : goal.put_coerced-returns-in-Shaped
+put_coerced-returns-in-Shaped t c = search (valuing, rules)
+
+pub put_input_field-put_coerced-requires : goal.put_input_field-put_coerced-requires
+put_input_field-put_coerced-requires t c = (search (rules, c.requires), (c.requires.parted, c.requires.count_bound.0))
+
+pub put_input_field-returns-in-Row : goal.put_input_field-returns-in-Row
+put_input_field-returns-in-Row t c = search (fielding, rules)
+
+pub put_input_field-returns-in_default-default : goal.put_input_field-returns-in_default-default
+put_input_field-returns-in_default-default t c = search (fielding, rules)
+
+pub put_input_field-put_checked_literal-requires : goal.put_input_field-put_checked_literal-requires
+put_input_field-put_checked_literal-requires t c = literals_parted_lem c.requires.parted
+
+pub put_input_field-returns : goal.put_input_field-returns
+put_input_field-returns t c = search (fielding, rules)
+
+pub put_input_object-returns-then-room-eq0 : goal.put_input_object-returns-then-room-eq0
+put_input_object-returns-then-room-eq0 t c = search (opening, rules)
+
+pub put_input_object-loop-i-init : goal.put_input_object-loop-i-init
+put_input_object-loop-i-init t c = search (opening, rules)
+
+pub put_input_object-put_input_field-written-requires : goal.put_input_object-put_input_field-written-requires
+put_input_object-put_input_field-written-requires t c = (
+  search
+      (rules, c.requires),
+  (c.requires.parted, (c.requires.count_bound, c.requires.count_bound_2.0)),
+)
+
+pub put_input_object-returns-in_default : goal.put_input_object-returns-in_default
+put_input_object-returns-in_default t c = search (opening, rules)
+
+pub put_input_object-overflow_add-i : goal.put_input_object-overflow_add-i
+put_input_object-overflow_add-i t c = search (rules, c.loop-i-test.true, c.well-formed.1.1.1.1.1.1.1.1.1.1.1.1)
+
+pub put_input_object-loop-i-preserved : goal.put_input_object-loop-i-preserved
+put_input_object-loop-i-preserved t c = search (opening, rules)
+
+pub put_input_object-returns : goal.put_input_object-returns
+put_input_object-returns t c = search (opening, rules)
+
+pub put_items-returns-then-room-eq0 : goal.put_items-returns-then-room-eq0
+put_items-returns-then-room-eq0 t c = search (itemizing, rules)
+
+pub put_items-loop-i-init : goal.put_items-loop-i-init
+put_items-loop-i-init t c = search (itemizing, rules)
+
+pub put_items-put_coerced-written-requires : goal.put_items-put_coerced-written-requires
+put_items-put_coerced-written-requires t c = (search (rules, c.requires), (c.requires.parted, c.requires.count_bound.0))
+
+pub put_items-returns-in_default : goal.put_items-returns-in_default
+put_items-returns-in_default t c = search (itemizing, rules)
+
+pub put_items-overflow_add-i : goal.put_items-overflow_add-i
+put_items-overflow_add-i t c = search (rules, c.loop-i-test.true, c.well-formed.1.1.1.1.1.1.1.1.1.1.1.1)
+
+pub put_items-loop-i-smaller : goal.put_items-loop-i-smaller
+put_items-loop-i-smaller t c = search (rules, c.loop-i-test.true)
+
+pub put_items-loop-i-preserved : goal.put_items-loop-i-preserved
+put_items-loop-i-preserved t c = items-again _ _ _ _ _ _ _ _ _ _ _
+    c.loop-i.invariant
+    c.loop-i-test.true
+    c.put-value.ensures
+    c.put_coerced-written.ensures (search rules)
+
+pub put_items-returns : goal.put_items-returns
+put_items-returns t c = search (itemizing, rules)
+
+pub put_named-returns-in_default : goal.put_named-returns-in_default
+put_named-returns-in_default t c = search (naming, rules)
+
+pub put_named-put_checked_literal-requires : goal.put_named-put_checked_literal-requires
+put_named-put_checked_literal-requires t c = literals_parted_lem c.requires.parted
+
+pub put_named-returns-in_default-kind : goal.put_named-returns-in_default-kind
+put_named-returns-in_default-kind t c = search (naming, rules)
+
+pub put_named-returns-in_default-shape : goal.put_named-returns-in_default-shape
+put_named-returns-in_default-shape t c = search (naming, rules)
+
+pub put_named-put_input_object-requires : goal.put_named-put_input_object-requires
+put_named-put_input_object-requires t c = (search (rules, c.requires), (c.requires.parted, (c.requires.form_at.0, (search (keyed_within, c.requires.parted, c.requires.form_at.1), search (few_declared, c.requires.parted)))))
+
+pub put_named-returns : goal.put_named-returns
+put_named-returns t c = search (naming, rules)
+
+pub put_shaped-put_named-requires : goal.put_shaped-put_named-requires
+put_shaped-put_named-requires t c = (search (rules, c.requires), (c.requires.parted, (c.requires.form_at.0, c.requires.form_at.1)))
+
+pub put_shaped-items_of-requires : goal.put_shaped-items_of-requires
+put_shaped-items_of-requires t c = let p = c.requires
+    in search (listable, p.1.0, p.1.1.1)
+
+pub put_shaped-put_items-requires : goal.put_shaped-put_items-requires
+put_shaped-put_items-requires t c = (search (rules, c.requires), (c.requires.parted, (c.requires.form_at.0, search rules)))
+
+pub put_shaped-returns-in-Named : goal.put_shaped-returns-in-Named
+put_shaped-returns-in-Named t c = search (shaping, rules)
+
+pub put_shaped-returns-in-ListOf : goal.put_shaped-returns-in-ListOf
+put_shaped-returns-in-ListOf t c = search (shaping, rules)
+
+pub put_shaped-returns-in-Unknown : goal.put_shaped-returns-in-Unknown
+put_shaped-returns-in-Unknown t c = search (shaping, rules)

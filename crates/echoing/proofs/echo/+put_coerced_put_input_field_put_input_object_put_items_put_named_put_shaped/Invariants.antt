@@ -1,0 +1,43 @@
+-- A literal at a type, written, by one induction: the containers that may still be opened fall. Assumes nothing.
+use Prim.Native.Nat.{ℕ, ◌+◌, ◌*◌, ◌-◌, ◌<◌}
+use borrow.Author.Rules.{rules}
+use Rattle.graphql.specs.Json.{containers}
+use Rattle.graphql.specs.Lookup.{rows_in}
+use Rattle.echoing.specs.Echo.{field_size, field_out, of_value, of_field}
+use Rattle.echoing.proofs.Loop.{Going}
+use Rattle.echoing.proofs.Fields.{item_out, items-again, items-stopped, fields-again, fields-stopped}
+use Rattle.input_coercion.proofs.Walk.{form_shaped, listable, keyed_within, few_declared}
+use Rattle.echoing.proofs.Walk.{literals_parted_lem, valuing, shaping, naming, itemizing, fielding, opening}
+use Rattle.echoing.proofs.echo.+put_coerced_put_input_field_put_input_object_put_items_put_named_put_shaped.Given as goal
+
+abbrev pub decreases-put_coerced : goal.decreases-put_coerced
+decreases-put_coerced l = l.room * 8 + 7
+
+abbrev pub decreases-put_input_field : goal.decreases-put_input_field
+decreases-put_input_field l = l.room * 8 + 8
+
+abbrev pub decreases-put_input_object : goal.decreases-put_input_object
+decreases-put_input_object l = l.room * 8 + 3
+
+abbrev pub decreases-put_items : goal.decreases-put_items
+decreases-put_items l = l.room * 8 + 3
+
+abbrev pub decreases-put_named : goal.decreases-put_named
+decreases-put_named l = l.room * 8 + 5
+
+abbrev pub decreases-put_shaped : goal.decreases-put_shaped
+decreases-put_shaped l = l.room * 8 + 6
+
+abbrev pub invariant-put_input_object-loop-i : goal.invariant-put_input_object-loop-i
+invariant-put_input_object-loop-i l = Going field_size (field_out l.pool l.names l.fields) (l.room - 1) (of_field l.pool l.names l.type_refs l.types l.fields l.nodes l.literals l.variables (l.room - 1)
+    (rows_in l.given)) l.first l.count l.initial.text l.at l.text l.next l.i
+
+abbrev pub decreases-put_input_object-loop-i : goal.decreases-put_input_object-loop-i
+decreases-put_input_object-loop-i l = l.count - l.i
+
+abbrev pub invariant-put_items-loop-i : goal.invariant-put_items-loop-i
+invariant-put_items-loop-i l = Going containers item_out (l.room - 1) (of_value l.pool l.names l.type_refs l.types l.fields l.nodes l.literals l.variables
+    (l.room - 1) l.inner) l.first l.count l.initial.text l.at l.text l.next l.i
+
+abbrev pub decreases-put_items-loop-i : goal.decreases-put_items-loop-i
+decreases-put_items-loop-i l = l.count - l.i

@@ -1,0 +1,44 @@
+-- The functions of the walk, by one induction: the segments that a path may still have fall. Assumes nothing.
+use mathlib.Core.Path.{refl}
+use Prim.Native.Nat.{◌+◌, ◌*◌, ◌-◌}
+use native.Mathlib.Omega.{arith}
+use borrow.Author.Rules.{rules}
+use Rattle.resolving.specs.Sound.{asking}
+use Rattle.execution.proofs.Looping.{Itemizing, items_begin, items_itemizable, items_numbered, items_ready, items-again, items-lost, items_ended}
+use Rattle.execution.proofs.Entering.{field_first, field_second, field_small, field_row, field_own, field_ready, field_done}
+use Rattle.execution.proofs.Beneath.{object_plannable, object-set-ready, object-set, object-apart-ready, object-apart, object_stops}
+use Rattle.execution.proofs.Beneath.{apart_lookable, apart_storable, apart-set-ready, apart-set, apart_stops}
+use Rattle.execution.proofs.Sets.{Grouping, set_there, set_spans, set_text, set_errors, set_begin, set-tally, set-field-ready, set_room, set-lost, set_again, set_ended}
+use Rattle.execution.proofs.Going.{go_finished, go_roomy, go-list-ready, go-object-ready, go_list, go_object}
+use Prim.Native.Nat.{ℕ, ◌<◌}
+use Rattle.execution.proofs.execution.+complete_items_enter_field_execute_apart_execute_object_execute_selection_set_go_on.Given as goal
+
+abbrev pub decreases-complete_items : goal.decreases-complete_items
+decreases-complete_items l = (32 - l.path.count) * 6 + 2
+
+abbrev pub decreases-enter_field : goal.decreases-enter_field
+decreases-enter_field l = (32 - l.path.count) * 6 + 2
+
+abbrev pub decreases-execute_apart : goal.decreases-execute_apart
+decreases-execute_apart l = (32 - l.path.count) * 6 + 4
+
+abbrev pub decreases-execute_object : goal.decreases-execute_object
+decreases-execute_object l = (32 - l.path.count) * 6 + 5
+
+abbrev pub decreases-execute_selection_set : goal.decreases-execute_selection_set
+decreases-execute_selection_set l = (32 - l.path.count) * 6 + 3
+
+abbrev pub decreases-go_on : goal.decreases-go_on
+decreases-go_on l = (32 - l.path.count) * 6 + 1
+
+abbrev pub invariant-complete_items-loop-i : goal.invariant-complete_items-loop-i
+invariant-complete_items-loop-i l = Itemizing (asking l.pool l.names l.type_refs l.types l.members l.fields l.arguments l.sets l.selections l.given l.fragments l.nodes l.literals l.variables l.answers) l.choices l.initial.text l.initial.errors l.initial.plans l.initial.spans l.initial.hints l.path l.initial.state l.plan l.group l.asked l.inner (record { first = l.first; count = l.count }) l.text l.errors l.plans l.spans l.hints l.state l.i
+
+abbrev pub decreases-complete_items-loop-i : goal.decreases-complete_items-loop-i
+decreases-complete_items-loop-i l = l.count - l.i
+
+abbrev pub invariant-execute_selection_set-loop-taken : goal.invariant-execute_selection_set-loop-taken
+invariant-execute_selection_set-loop-taken l = Grouping (asking l.pool l.names l.type_refs l.types l.members l.fields l.arguments l.sets l.selections l.given l.fragments l.nodes l.literals l.variables l.answers) l.choices l.initial.text l.initial.errors l.initial.plans l.initial.spans l.initial.hints l.path l.initial.state l.plan l.object l.rows l.text l.errors l.plans l.spans l.hints l.state l.groups l.base l.low l.taken
+
+abbrev pub decreases-execute_selection_set-loop-taken : goal.decreases-execute_selection_set-loop-taken
+decreases-execute_selection_set-loop-taken l = l.groups - l.taken

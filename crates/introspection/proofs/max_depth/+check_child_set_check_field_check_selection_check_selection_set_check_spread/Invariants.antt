@@ -1,0 +1,32 @@
+-- The five functions of the walk, by one induction: the sets that may still be opened fall. Assumes nothing.
+use Prim.Native.Nat.{◌+◌, ◌*◌, ◌-◌}
+use native.Mathlib.Omega.{arith}
+use borrow.Author.Rules.{rules}
+use Rattle.introspection.proofs.Walk.{Going, walk_on, child_none, child_checked, field_same, field_deep, field_raised, a_field, a_spread, an_inline, an_unknown}
+use Rattle.introspection.proofs.Walk.{mark_there, mark_kept, spread_undefined, again-deep, again-level, spread-stopped, spread-met}
+use Rattle.introspection.proofs.Walk.{set_full, set_begin, going_again, set_stopped, set_ended}
+use Prim.Native.Nat.{ℕ, ◌<◌}
+use Rattle.introspection.proofs.max_depth.+check_child_set_check_field_check_selection_check_selection_set_check_spread.Given as goal
+
+ruleset sets = (walk_on, set_full, set_begin, going_again, set_stopped, set_ended, rules)
+
+abbrev pub decreases-check_child_set : goal.decreases-check_child_set
+decreases-check_child_set l = l.room * 4 + 1
+
+abbrev pub decreases-check_field : goal.decreases-check_field
+decreases-check_field l = l.room * 4 + 2
+
+abbrev pub decreases-check_selection : goal.decreases-check_selection
+decreases-check_selection l = l.room * 4 + 3
+
+abbrev pub decreases-check_selection_set : goal.decreases-check_selection_set
+decreases-check_selection_set l = l.room * 4
+
+abbrev pub decreases-check_spread : goal.decreases-check_spread
+decreases-check_spread l = l.room * 4 + 1
+
+abbrev pub invariant-check_selection_set-loop-i : goal.invariant-check_selection_set-loop-i
+invariant-check_selection_set-loop-i l = Going l.sets l.selections l.fragments (l.room - 1) l.depth_so_far l.first l.count l.initial.marks l.marks l.max_depth l.i
+
+abbrev pub decreases-check_selection_set-loop-i : goal.decreases-check_selection_set-loop-i
+decreases-check_selection_set-loop-i l = l.count - l.i
