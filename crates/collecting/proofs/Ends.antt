@@ -2,7 +2,8 @@
 use mathlib.Core.Path.{◌≡◌, refl, ◌∙◌}
 use mathlib.Core.List.{List, [], ◌∷◌}
 use Prim.Native.Nat.{ℕ}
-use types.Run.{OneOf, miss}
+use types.Run.{miss}
+use borrow.Enum.Refused.{Among, opened}
 use denote.Enum.Declared.{tag_of}
 use Rattle.graphql.specs.Run.{Choices, Res, M, stop, failed, done, after, pure, onward, ◌>>=◌}
 use Rattle.graphql.specs.Collect.{Collected}
@@ -30,7 +31,7 @@ abbrev stops : List ℕ
 stops = 1 ∷ 2 ∷ []
 
 abbrev pub Stopped : Collecting → Type 0
-Stopped r = OneOf stops (tag_of the_type r)
+Stopped r = Among stops (tag_of the_type r)
 
 -- a run that comes to the same
 pub comes_as : (selections fragments : List ℕ) {m n : M Collected} (r : Collecting) (list : List ℕ) → ((k : Choices) → m k ≡ n k)
@@ -42,7 +43,7 @@ comes_as selections fragments TooManyFields list h q = λ k. h k ∙ q k
 module _ (selections fragments : List ℕ) (m : M Collected) (f : Collected → M Collected) where
   pub stopped : (r : Collecting) (list : List ℕ) → Stopped r → Comes selections fragments m r list → Comes selections fragments (m >>= f) r list
   unfolding ◌>>=◌ onward
-  stopped (On g) list o h = absurd (miss stops 0 tt o)
+  stopped (On g) list o h = absurd (miss stops 0 tt (opened o))
   stopped TooFar list o h = λ k. rw (h k)
   stopped TooManyFields list o h = λ k. rw (h k)
 

@@ -4,7 +4,8 @@ use mathlib.Core.Bool.{Bool, true, false}
 use mathlib.Core.List.{List, [], ◌∷◌}
 use Prim.Native.Nat.{ℕ, ◌+◌, ◌≤◌}
 use lib.Dec.{eqb}
-use types.Run.{OneOf, miss}
+use types.Run.{miss}
+use borrow.Enum.Refused.{Among, opened}
 use denote.Enum.Declared.{tag_of}
 use Rattle.rows.specs.Limits.{most_rows}
 use Rattle.rows.specs.Schema.{type_at}
@@ -30,11 +31,11 @@ use Rattle.lookup.specs.Found.{Listed}
 abbrev others : List ℕ
 others = 0 ∷ 3 ∷ 4 ∷ 5 ∷ 6 ∷ 7 ∷ 8 ∷ 9 ∷ []
 
-no_boolean : (default : Bool) (n : Node) → OneOf others (tag_of the_type n) → or_default default (node_form n) ≡ default
+no_boolean : (default : Bool) (n : Node) → Among others (tag_of the_type n) → or_default default (node_form n) ≡ default
 unfolding or_default node_form
 no_boolean default node.Null o = refl
-no_boolean default node.False o = absurd (miss others 1 tt o)
-no_boolean default node.True o = absurd (miss others 2 tt o)
+no_boolean default node.False o = absurd (miss others 1 tt (opened o))
+no_boolean default node.True o = absurd (miss others 2 tt (opened o))
 no_boolean default (node.Natural low high) o = refl
 no_boolean default (node.Negative low high) o = refl
 no_boolean default (node.Float text) o = refl
@@ -61,7 +62,7 @@ module _ (variables nodes : List ℕ) (default : Bool) (name : ℕ) {found : Opt
     unfolding or_default node_form
     variable_true k = rw (by_node, k)
 
-    pub variable_other : OneOf others (tag_of the_type n) → default ≡ variable_holds variables nodes default (variable_named variables name)
+    pub variable_other : Among others (tag_of the_type n) → default ≡ variable_holds variables nodes default (variable_named variables name)
     variable_other o = rw by_node (sym (no_boolean default n o))
 
 pub ruleset conditions = (variable_absent, variable_false, variable_true, variable_other)
@@ -96,16 +97,16 @@ module _ (types members : List ℕ) (object n : ℕ) {found : Optional} (e : fou
     unfolding applies_by
     applies_union k m l = rw (by_kind, k, ← m) l
 
-    pub applies_never : OneOf neither (tag_of kinds.the_type ty.kind) → false ≡ does_fragment_type_apply types members object n
+    pub applies_never : Among neither (tag_of kinds.the_type ty.kind) → false ≡ does_fragment_type_apply types members object n
     unfolding applies_by
     applies_never o = rw by_kind (go ty.kind o)
       where
-        go : (k : TypeKind) → OneOf neither (tag_of kinds.the_type k) → false ≡ applies_by types members object n row k
+        go : (k : TypeKind) → Among neither (tag_of kinds.the_type k) → false ≡ applies_by types members object n row k
         go kind.Scalar o = refl
         go kind.Enum o = refl
-        go kind.Object o = absurd (miss neither 2 tt o)
-        go kind.Interface o = absurd (miss neither 3 tt o)
-        go kind.Union o = absurd (miss neither 4 tt o)
+        go kind.Object o = absurd (miss neither 2 tt (opened o))
+        go kind.Interface o = absurd (miss neither 3 tt (opened o))
+        go kind.Union o = absurd (miss neither 4 tt (opened o))
         go kind.InputObject o = refl
         go kind.Unknown o = refl
 

@@ -6,7 +6,8 @@ use mathlib.Core.Option.{some}
 use Prim.Native.Nat.{ℕ}
 use lib.Dec.{eqb}
 use borrow.Author.Tests.{ne_eqb}
-use types.Run.{OneOf, miss}
+use types.Run.{miss}
+use borrow.Enum.Refused.{Among, opened}
 use denote.Enum.Declared.{tag_of}
 use Rattle.rows.specs.Names.{'Int, 'Float, 'String, 'Boolean, 'ID}
 use Rattle.rows.specs.Schema.{type_at}
@@ -124,16 +125,16 @@ module _ (pool names types members : List ℕ) {type : ℕ} {sort : Sort} {strin
   unfolding leaf_at
   at_unknown = record { comes = λ q l s g p. refl }
 
-  pub at_composite : (k : TypeKind) → OneOf composites (tag_of the_type k)
+  pub at_composite : (k : TypeKind) → Among composites (tag_of the_type k)
       → JudgesAt pool names types members type k sort string (Error error.LeafForComposite)
   unfolding leaf_at
-  at_composite kind.Scalar o = absurd (miss composites 0 tt o)
-  at_composite kind.Enum o = absurd (miss composites 1 tt o)
+  at_composite kind.Scalar o = absurd (miss composites 0 tt (opened o))
+  at_composite kind.Enum o = absurd (miss composites 1 tt (opened o))
   at_composite kind.Object o = record { comes = λ q l s g p. refl }
   at_composite kind.Interface o = record { comes = λ q l s g p. refl }
   at_composite kind.Union o = record { comes = λ q l s g p. refl }
-  at_composite kind.InputObject o = absurd (miss composites 5 tt o)
-  at_composite kind.Unknown o = absurd (miss composites 6 tt o)
+  at_composite kind.InputObject o = absurd (miss composites 5 tt (opened o))
+  at_composite kind.Unknown o = absurd (miss composites 6 tt (opened o))
 
 -- ---- the whole
 
@@ -153,7 +154,7 @@ module _ (pool names refs types members : List ℕ) {ty : ℕ} {sort : Sort} {st
       go Q l z g p true = refl
       go Q l z g p false = rw z
 
-  module _ (o : OneOf others (tag_of the-sort sort)) {t : Typed} (named : NamesType refs types ty t) where
+  module _ (o : Among others (tag_of the-sort sort)) {t : Typed} (named : NamesType refs types ty t) where
     pub leaf_untyped : {e : FieldError} → t ≡ typing.Error e → JudgesLeaf pool names refs types members ty sort string (Error e)
     unfolding complete_leaf_value when
     leaf_untyped h = record {

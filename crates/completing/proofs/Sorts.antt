@@ -6,7 +6,8 @@ use mathlib.Core.Option.{none, some}
 use Prim.Native.Nat.{ℕ}
 use native.Mathlib.Omega.{arith}
 use lib.Dec.{T, ltb, leb}
-use types.Run.{OneOf, miss}
+use types.Run.{miss}
+use borrow.Enum.Refused.{Among, opened}
 use mir.Val.{has_key}
 use denote.Enum.Declared.{tag_of}
 use Rattle.graphql.specs.Json.{Json, null, bool, natural, negative, float, string, array, object, sort_of, is_a, string_of, sort-discrete}
@@ -46,13 +47,13 @@ module _ (j : Json) {s : Sort} (e : said (sort_of j) ≡ s) where
   is_it k = rw sort_is
 
 -- a sort among some others
-pub is_not : (k : defined.Sort) (s : Sort) (tags : List ℕ) → OneOf tags (tag_of the_type s)
+pub is_not : (k : defined.Sort) (s : Sort) (tags : List ℕ) → Among tags (tag_of the_type s)
     → T (not (has_key tags (tag_of the_type (said k)))) → is k s ≡ false
 unfolding decide
 is_not k s tags o m = go (sort-discrete k (meant s))
   where
     go : (d : Dec (k ≡ meant s)) → decide d ≡ false
-    go (yes e) = let same : said k ≡ s = ap said e ∙ said_meant s in absurd (miss tags (tag_of the_type s) (rw same at m) o)
+    go (yes e) = let same : said k ≡ s = ap said e ∙ said_meant s in absurd (miss tags (tag_of the_type s) (rw same at m) (opened o))
     go (no d) = refl
 
 -- ---- a null, and a string

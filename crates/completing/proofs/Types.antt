@@ -6,7 +6,8 @@ use mathlib.Core.Option.{Option, none, some}
 use Prim.Native.Nat.{ℕ}
 use native.Mathlib.Omega.{arith}
 use lib.Dec.{eqb}
-use types.Run.{OneOf, miss}
+use types.Run.{miss}
+use borrow.Enum.Refused.{Among, opened}
 use denote.Enum.Declared.{tag_of}
 use Rattle.rows.specs.Schema.{type_ref_at, type_at}
 use Rattle.rows.specs.declared.layout.Optional.{Optional}
@@ -67,10 +68,10 @@ module _ (refs types : List ℕ) {ty : ℕ} {x : TypeRef} (t : x ≡ type_ref_at
 abbrev others : List ℕ
 others = 0 ∷ 1 ∷ 3 ∷ 4 ∷ 5 ∷ 6 ∷ []
 
-no_object : (k : TypeKind) → OneOf others (tag_of the_type k) → object_kind k ≡ false
+no_object : (k : TypeKind) → Among others (tag_of the_type k) → object_kind k ≡ false
 no_object kind.Scalar o = refl
 no_object kind.Enum o = refl
-no_object kind.Object o = absurd (miss others 2 tt o)
+no_object kind.Object o = absurd (miss others 2 tt (opened o))
 no_object kind.Interface o = refl
 no_object kind.Union o = refl
 no_object kind.InputObject o = refl
@@ -102,7 +103,7 @@ module _ (types : List ℕ) {name : ℕ} {o : Optional} (n : o ≡ row_of (type_
         let is : object_kind (type_at types row).kind ≡ true = rw (← t, k) in
         record { finds = λ q. rw (kept_some q name row (found (type_named types name) (sym f ∙ n)) is); object = is }
 
-    pub object_other : OneOf others (tag_of the_type d.kind) → NamesObject types name Absent
+    pub object_other : Among others (tag_of the_type d.kind) → NamesObject types name Absent
     object_other k =
         let is : object_kind (type_at types row).kind ≡ false = rw (← t) (no_object d.kind k) in
         record { finds = λ q. rw (kept_some q name row (found (type_named types name) (sym f ∙ n)) is); object = tt }

@@ -5,7 +5,8 @@ use mathlib.Core.Option.{Option, none, some}
 use Prim.Native.Nat.{ℕ, suc, ◌≤◌}
 use native.Mathlib.Omega.{arith}
 use lib.ListN.{length}
-use types.Run.{OneOf, miss}
+use types.Run.{miss}
+use borrow.Enum.Refused.{Among, opened}
 use denote.Enum.Declared.{tag_of}
 use Rattle.rows.specs.Layout.{node_width}
 use Rattle.rows.specs.Rows.{rows_of}
@@ -72,13 +73,13 @@ module _ (pool names literals : List ℕ) (room row : ℕ) {text text' : List �
             };
       }
 
-  pub literal_not : OneOf stops (tag_of the_type r) → Echoes room (of_part pool names literals room row) text at TooFar text'
+  pub literal_not : Among stops (tag_of the_type r) → Echoes room (of_part pool names literals room row) text at TooFar text'
   unfolding of_part ended_as pure halt
   literal_not o = go q.ending q.is q.put
     where
       go : (v : Ending) → ((c : Choices) → part_by_part pool names literals room row c ≡ ended_as v c) → EndsAs v text at r text'
           → Echoes room (of_part pool names literals room row) text at TooFar text'
-      go (there j) is put = absurd (miss stops 0 tt (rw put.is at o))
+      go (there j) is put = absurd (miss stops 0 tt (opened (rw put.is at o)))
       go far is put = record {
         long = put.long;
         shown = λ p j e. let here = is e.from in let came = e.is in absurd (let z : ◌≡◌ {A = ℕ} 0 1 = cc in omega arith);

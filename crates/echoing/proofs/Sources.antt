@@ -7,7 +7,8 @@ use Prim.Native.Nat.{ℕ, zero, suc, ◌+◌, ◌≤◌, ◌<◌}
 use native.Mathlib.Omega.{arith}
 use borrow.Author.Tests.{eq-eqb, ne_eqb, eqb-true, eqb-false}
 use lib.Dec.{eqb}
-use types.Run.{OneOf, miss}
+use types.Run.{miss}
+use borrow.Enum.Refused.{Among, opened}
 use denote.Enum.Declared.{tag_of}
 use Rattle.rows.specs.Schema.{argument_at}
 use Rattle.rows.specs.Document.{given_at}
@@ -234,9 +235,9 @@ module _ (pool names refs types fields nodes literals variables arguments given 
       variable-stands (some v) q = found-valued (variable_value pool nodes variables v) (no_error _ error.NullArgument _ q)
 
 -- a form that is none of a variable
-no_variable : (f : Form) → OneOf (0 ∷ 2 ∷ []) (tag_of form_type_lem f) → (x : ℕ) → form_meant f ≡ variable x → ⊥
+no_variable : (f : Form) → Among (0 ∷ 2 ∷ []) (tag_of form_type_lem f) → (x : ℕ) → form_meant f ≡ variable x → ⊥
 no_variable form.Null o x e = let z : ◌≡◌ {A = ℕ} 0 1 = cc in omega arith
-no_variable (form.Variable y) o x e = miss (0 ∷ 2 ∷ []) 1 tt o
+no_variable (form.Variable y) o x e = miss (0 ∷ 2 ∷ []) 1 tt (opened o)
 no_variable (form.Shaped s) o x e = let z : ◌≡◌ {A = ℕ} 0 1 = cc in omega arith
 
 -- ---- all of a field's
@@ -306,7 +307,7 @@ module _ (arguments given literals variables : List ℕ) (definitions written : 
               (rw (c.labelled, is_found_lem (given_named given name (rows_in written)) g n, ← v, l.is, i) at c.here));
         }
 
-        pub source-literal : OneOf (0 ∷ 2 ∷ []) (tag_of form_type_lem f)
+        pub source-literal : Among (0 ∷ 2 ∷ []) (tag_of form_type_lem f)
             → SourceOf arguments given literals variables definitions written name (source.Literal argument.ty value.literal)
         unfolding coerce_argument given_argument literal_argument
         source-literal o = record {
@@ -323,12 +324,12 @@ module _ (arguments given literals variables : List ℕ) (definitions written : 
               });
         }
           where
-            go : (pool names refs types fields nodes : List ℕ) (p : Path) (own : Arguments) (f : Form) → OneOf (0 ∷ 2 ∷ []) (tag_of form_type_lem f)
+            go : (pool names refs types fields nodes : List ℕ) (p : Path) (own : Arguments) (f : Form) → Among (0 ∷ 2 ∷ []) (tag_of form_type_lem f)
                 → Comes (given_argument pool names refs types fields nodes literals variables arguments given p row value.literal (form_meant f)) own
                 → Comes (literal_argument pool names refs types fields nodes literals variables arguments given p row value.literal) own
             go pool names refs types fields nodes p own form.Null o q =
                 no_error pool names refs types fields nodes literals variables arguments given p row _ error.NullArgument _ q
-            go pool names refs types fields nodes p own (form.Variable x) o q = absurd (miss (0 ∷ 2 ∷ []) 1 tt o)
+            go pool names refs types fields nodes p own (form.Variable x) o q = absurd (miss (0 ∷ 2 ∷ []) 1 tt (opened o))
             go pool names refs types fields nodes p own (form.Shaped s) o q = q
 
 pub ruleset sourcing = (source_unknown, source-default, source-variable, source-literal)

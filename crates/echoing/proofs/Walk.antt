@@ -4,7 +4,8 @@ use mathlib.Core.Bool.{Bool}
 use mathlib.Core.List.{List, [], ◌∷◌}
 use mathlib.Core.Option.{Option, none, some}
 use Prim.Native.Nat.{ℕ, zero, suc, ◌+◌, ◌≤◌}
-use types.Run.{OneOf, miss}
+use types.Run.{miss}
+use borrow.Enum.Refused.{Among, opened}
 use denote.Enum.Declared.{tag_of}
 use Rattle.rows.specs.Limits.{most_literals, most_fields}
 use Rattle.rows.specs.Schema.{type_ref_at, type_at}
@@ -77,7 +78,7 @@ module _ (pool names refs types fields nodes literals variables : List ℕ) (roo
         (λ p j q. comes_failed literals error.UndefinedInputType row p (rw (not_found (type_named types name) e h) at q))
 
     module _ {type : ℕ} {def : TypeDef} (h : found ≡ Row type) (d : def ≡ type_at types type) where
-      pub named_other : {r : Put} {text' : List ℕ} → OneOf other_kinds (tag_of kind-type def.kind)
+      pub named_other : {r : Put} {text' : List ℕ} → Among other_kinds (tag_of kind-type def.kind)
           → Echoes room (of_part pool names literals room row) text at r text'
           → Echoes room (of_named pool names refs types fields nodes literals variables room row s name) text at r text'
       unfolding of_named coerce_named when of_part
@@ -86,16 +87,16 @@ module _ (pool names refs types fields nodes literals variables : List ℕ) (roo
         shown = λ p j q. w.shown p j (rw (is_found_lem (type_named types name) e h, ← d, other_kind def.kind o) at q);
       }
 
-      pub named-unkeyed : def.kind ≡ kind.InputObject → OneOf unkeyed (tag_of shape-type s)
+      pub named-unkeyed : def.kind ≡ kind.InputObject → Among unkeyed (tag_of shape-type s)
           → Echoes room (of_named pool names refs types fields nodes literals variables room row s name) text at TooFar text
       unfolding input_object
       named-unkeyed k o = never containers print room _ text at (λ p j q. go s o p j (as_object row s name type e h d k p j q))
         where
-          go : (s : Shape) → OneOf unkeyed (tag_of shape-type s) → (p : Path) (j : Json)
+          go : (s : Shape) → Among unkeyed (tag_of shape-type s) → (p : Path) (j : Json)
               → Comes (input_object pool names refs types fields nodes literals variables room (deeper p) p type row (shape_meant s)) j → ⊥
           go shape.Single o p j q = comes_failed literals error.CannotCoerce row p q
           go (shape.Listed rows) o p j q = comes_failed literals error.CannotCoerce row p q
-          go (shape.Keyed rows) o p j q = absurd (miss unkeyed 2 tt o)
+          go (shape.Keyed rows) o p j q = absurd (miss unkeyed 2 tt (opened o))
 
       pub named-object : {given : Range} {r : Put} {text' : List ℕ} → def.kind ≡ kind.InputObject → s ≡ shape.Keyed given
           → EchoesFields pool names refs types fields nodes literals variables room (rows_in given) (rows_in def.fields) text at r text'

@@ -5,7 +5,7 @@ use mathlib.Core.List.{List, [], ◌∷◌}
 use Prim.Native.Nat.{ℕ, suc, ◌+◌, ◌*◌, ◌≤◌, ◌<◌}
 use native.Mathlib.Omega.{arith}
 use lib.ListN.{length, drop}
-use types.Run.{OneOf}
+use borrow.Enum.Refused.{Among}
 use denote.Enum.Declared.{tag_of}
 use Rattle.rows.specs.Limits.{most_types}
 use Rattle.rows.specs.declared.layout.Range.{Range}
@@ -152,7 +152,7 @@ module _ {Q : Request} {plans spans hints : List ℕ} {path : Path} {s : State} 
     })
 
     -- it is one of the two ends that stop
-    pub object_stops : {cs text errors : List ℕ} {code : ℕ} {d : Done} → OneOf (2 ∷ 3 ∷ []) (tag_of planneds p) → code ≡ stop_code p
+    pub object_stops : {cs text errors : List ℕ} {code : ℕ} {d : Done} → Among (2 ∷ 3 ∷ []) (tag_of planneds p) → code ≡ stop_code p
         → d ≡ record { what = Fails (Stop code); state = s }
         → ObjectDone Q cs text errors plans spans hints path s plan group object rows d text errors plans1 spans hints1
     object_stops {cs} {text} {errors} {d = d} n c e = go p refl
@@ -233,7 +233,7 @@ module _ {Q : Request} {plans spans hints : List ℕ} {path : Path} {s : State} 
     })
 
     -- it is not that there is no room
-    pub apart_stops : {cs text errors : List ℕ} {code : ℕ} {d : Done} → OneOf (1 ∷ 2 ∷ 3 ∷ []) (tag_of planneds p) → code ≡ stop_code p
+    pub apart_stops : {cs text errors : List ℕ} {code : ℕ} {d : Done} → Among (1 ∷ 2 ∷ 3 ∷ []) (tag_of planneds p) → code ≡ stop_code p
         → d ≡ record { what = Fails (Stop code); state = s }
         → ObjectDone Q cs text errors plans spans hints path s plan group object rows d text errors plans spans hints
     apart_stops {cs} {text} {errors} {d = d} n c e = go p refl

@@ -2,7 +2,8 @@
 use mathlib.Core.Path.{◌≡◌, refl}
 use mathlib.Core.List.{List, [], ◌∷◌}
 use Prim.Native.Nat.{ℕ}
-use types.Run.{OneOf, miss}
+use types.Run.{miss}
+use borrow.Enum.Refused.{Among, opened}
 use denote.Enum.Declared.{tag_of}
 use Rattle.graphql.specs.Run.{Path, M, pure, halt, fail, after, onward, in_order, ◌>>=◌}
 use Rattle.codes.specs.Errors.{number_of, place_of}
@@ -17,7 +18,7 @@ use Rattle.input_coercion.specs.contracts.check.Coercion.{the_type}
 
 -- the code's answer is no value
 abbrev pub Stopped : Coercion → Type 0
-Stopped r = OneOf (1 ∷ 2 ∷ 3 ∷ []) (tag_of the_type r)
+Stopped r = Among (1 ∷ 2 ∷ 3 ∷ []) (tag_of the_type r)
 
 pub value_pure : {A : Type 0} (a : A) → Valued (pure a)
 unfolding pure
@@ -43,7 +44,7 @@ module _ {A B : Type 0} (p : Path) (m : M A) where
   -- a run that does not is the end
   pub ends_stopped : (k : A → M B) (r : Coercion) → Stopped r → Ends p m r → Ends p (m >>= k) r
   unfolding ◌>>=◌ onward fail halt
-  ends_stopped k coercion.Value s q = absurd (miss (1 ∷ 2 ∷ 3 ∷ []) 0 tt s)
+  ends_stopped k coercion.Value s q = absurd (miss (1 ∷ 2 ∷ 3 ∷ []) 0 tt (opened s))
   ends_stopped k (coercion.Failed e) s q = λ c. rw (q c)
   ends_stopped k coercion.TooFar s q = λ c. rw (q c)
   ends_stopped k coercion.VariableInLiteral s q = λ c. rw (q c)

@@ -6,7 +6,8 @@ use mathlib.Core.List.{List, [], ◌∷◌}
 use mathlib.Core.Option.{Option, none, some}
 use Prim.Native.Nat.{ℕ, ◌<◌}
 use native.Mathlib.Omega.{arith}
-use types.Run.{OneOf, miss}
+use types.Run.{miss}
+use borrow.Enum.Refused.{Among, opened}
 use denote.Enum.Declared.{tag_of}
 use Rattle.rows.specs.Json.{node_at, literal_at, variable_at}
 use Rattle.rows.specs.declared.layout.Range.{Range}
@@ -50,9 +51,9 @@ is_found_lem o {row = row} e h = go o (sym h ∙ e)
 abbrev others : List ℕ
 others = 1 ∷ 2 ∷ 3 ∷ 4 ∷ 5 ∷ 6 ∷ 7 ∷ 8 ∷ 9 ∷ []
 
-no_null_lem : (n : Node) → OneOf others (tag_of node-type n) → is_null_form (node_form n) ≡ false
+no_null_lem : (n : Node) → Among others (tag_of node-type n) → is_null_form (node_form n) ≡ false
 unfolding is_null_form node_form
-no_null_lem node.Null o = absurd (miss others 0 tt o)
+no_null_lem node.Null o = absurd (miss others 0 tt (opened o))
 no_null_lem node.False o = refl
 no_null_lem node.True o = refl
 no_null_lem (node.Natural low high) o = refl
@@ -68,7 +69,7 @@ module _ (refs nodes variables : List ℕ) (ty row : ℕ) {v : VariableValue} {n
   unfolding null_against is_null_form node_form
   a_null_lem h g = rw (← e, ← f, h) g
 
-  pub no_null_there : OneOf others (tag_of node-type n) → false ≡ null_against refs nodes variables ty row
+  pub no_null_there : Among others (tag_of node-type n) → false ≡ null_against refs nodes variables ty row
   unfolding null_against
   no_null_there o = rw (← e, ← f, no_null_lem n o)
 
@@ -79,19 +80,19 @@ pub ruleset against = (a_null_lem, no_null_there)
 abbrev singles : List ℕ
 singles = 1 ∷ 2 ∷ 3 ∷ 4 ∷ 5 ∷ 6 ∷ 9 ∷ 11 ∷ []
 
-single_form : (l : Literal) → OneOf singles (tag_of literal-type l) → literal_form l ≡ defined.shaped defined.single
+single_form : (l : Literal) → Among singles (tag_of literal-type l) → literal_form l ≡ defined.shaped defined.single
 unfolding literal_form
-single_form literal.Null o = absurd (miss singles 0 tt o)
+single_form literal.Null o = absurd (miss singles 0 tt (opened o))
 single_form literal.False o = refl
 single_form literal.True o = refl
 single_form (literal.Natural n) o = refl
 single_form (literal.Negative m) o = refl
 single_form (literal.Float text) o = refl
 single_form (literal.String text) o = refl
-single_form (literal.List rows) o = absurd (miss singles 7 tt o)
-single_form (literal.Object rows) o = absurd (miss singles 8 tt o)
+single_form (literal.List rows) o = absurd (miss singles 7 tt (opened o))
+single_form (literal.Object rows) o = absurd (miss singles 8 tt (opened o))
 single_form (literal.Enum name) o = refl
-single_form (literal.Variable name) o = absurd (miss singles 10 tt o)
+single_form (literal.Variable name) o = absurd (miss singles 10 tt (opened o))
 single_form literal.Unknown o = refl
 
 module _ (literals : List ℕ) (row : ℕ) {l : Literal} (e : l ≡ literal_at literals row) where
@@ -111,7 +112,7 @@ module _ (literals : List ℕ) (row : ℕ) {l : Literal} (e : l ≡ literal_at l
   unfolding literal_form
   form_object h = record { is = rw (← e, h) }
 
-  pub form_single : OneOf singles (tag_of literal-type l) → FormAt literals row (form.Shaped shape.Single)
+  pub form_single : Among singles (tag_of literal-type l) → FormAt literals row (form.Shaped shape.Single)
   form_single o = record { is = rw (← e) (single_form l o) }
 
 pub ruleset forms = (form_null, form_variable, form_list, form_object, form_single)
@@ -126,11 +127,11 @@ module _ (row : ℕ) (s : Shape) where
   unfolding items_of
   items_listed {rows} w h = record { are = rw h; words = omega (arith, w.few rows h) }
 
-  pub items_wrapped : row < 4294967296 → OneOf unlisted (tag_of shape-type s) → ItemsAt row s (record { first = row; count = 1 })
+  pub items_wrapped : row < 4294967296 → Among unlisted (tag_of shape-type s) → ItemsAt row s (record { first = row; count = 1 })
   unfolding items_of rows_in rows_from
   items_wrapped l o = record { are = go s o; words = omega arith }
     where
-      go : (s : Shape) → OneOf unlisted (tag_of shape-type s) → row ∷ [] ≡ items_of row (shape_meant s)
+      go : (s : Shape) → Among unlisted (tag_of shape-type s) → row ∷ [] ≡ items_of row (shape_meant s)
       go shape.Single o = refl
-      go (shape.Listed rows) o = absurd (miss unlisted 1 tt o)
+      go (shape.Listed rows) o = absurd (miss unlisted 1 tt (opened o))
       go (shape.Keyed rows) o = refl

@@ -3,7 +3,8 @@ use mathlib.Core.Path.{◌≡◌, refl}
 use mathlib.Core.List.{List, [], ◌∷◌}
 use Prim.Native.Nat.{ℕ, zero, suc, ◌+◌, ◌-◌, ◌≤◌, ◌<◌}
 use native.Mathlib.Omega.{arith}
-use types.Run.{OneOf, miss}
+use types.Run.{miss}
+use borrow.Enum.Refused.{Among, opened}
 use denote.Enum.Declared.{tag_of}
 use Rattle.rows.specs.Limits.{most_literals}
 use Rattle.rows.specs.Json.{literal_at}
@@ -41,7 +42,7 @@ abbrev plains : List ℕ
 plains = 0 ∷ 1 ∷ 2 ∷ 3 ∷ 4 ∷ 5 ∷ 6 ∷ 9 ∷ 11 ∷ []
 
 module _ (literals pool names : List ℕ) (room : ℕ) where
-  plain_valued : (inside : ℕ → M Json) (l : Literal) → OneOf plains (tag_of literal-type l) → Valued (parts_of pool names literals room inside l)
+  plain_valued : (inside : ℕ → M Json) (l : Literal) → Among plains (tag_of literal-type l) → Valued (parts_of pool names literals room inside l)
   unfolding parts_of
   plain_valued inside literal.Null o = value_pure _
   plain_valued inside literal.False o = value_pure _
@@ -50,10 +51,10 @@ module _ (literals pool names : List ℕ) (room : ℕ) where
   plain_valued inside (literal.Negative m) o = value_pure _
   plain_valued inside (literal.Float text) o = value_pure _
   plain_valued inside (literal.String text) o = value_pure _
-  plain_valued inside (literal.List rows) o = absurd (miss plains 7 tt o)
-  plain_valued inside (literal.Object rows) o = absurd (miss plains 8 tt o)
+  plain_valued inside (literal.List rows) o = absurd (miss plains 7 tt (opened o))
+  plain_valued inside (literal.Object rows) o = absurd (miss plains 8 tt (opened o))
   plain_valued inside (literal.Enum name) o = value_pure _
-  plain_valued inside (literal.Variable name) o = absurd (miss plains 10 tt o)
+  plain_valued inside (literal.Variable name) o = absurd (miss plains 10 tt (opened o))
   plain_valued inside literal.Unknown o = value_pure _
 
   by_literal : (row : ℕ) → part_by_part pool names literals room row ≡ parts_of pool names literals room (part_inside literals room pool names) (literal_at literals row)
@@ -81,7 +82,7 @@ module _ (literals : List ℕ) (room row : ℕ) {l : Literal} (e : l ≡ literal
   unfolding of_part parts_of
   part-variable h = record { ends = λ pool names p c. rw (by_literal literals pool names room row, ← e, h) }
 
-  pub part-plain : OneOf plains (tag_of literal-type l) → Checks (of_part literals room row) coercion.Value
+  pub part-plain : Among plains (tag_of literal-type l) → Checks (of_part literals room row) coercion.Value
   unfolding of_part
   part-plain o = record {
     ends = λ pool names p. rw (by_literal literals pool names room row, ← e) (plain_valued literals pool names room (part_inside literals room pool names) l o);

@@ -5,7 +5,8 @@ use mathlib.Core.List.{List, [], ◌∷◌}
 use mathlib.Core.Option.{Option, none, some}
 use Prim.Native.Nat.{ℕ, zero, suc, ◌+◌, ◌≤◌}
 use native.Mathlib.Omega.{arith}
-use types.Run.{OneOf, miss}
+use types.Run.{miss}
+use borrow.Enum.Refused.{Among, opened}
 use denote.Enum.Declared.{tag_of}
 use Rattle.rows.specs.Limits.{most_literals, most_fields}
 use Rattle.rows.specs.Schema.{type_ref_at, type_at}
@@ -76,14 +77,14 @@ one_unknown (some key) h = (key, refl)
 abbrev pub other_kinds : List ℕ
 other_kinds = 0 ∷ 1 ∷ 2 ∷ 3 ∷ 4 ∷ 6 ∷ []
 
-pub other_kind : (k : TypeKind) → OneOf other_kinds (tag_of kind-type k) → is_input_object k ≡ false
+pub other_kind : (k : TypeKind) → Among other_kinds (tag_of kind-type k) → is_input_object k ≡ false
 unfolding is_input_object
 other_kind kind.Scalar o = refl
 other_kind kind.Enum o = refl
 other_kind kind.Object o = refl
 other_kind kind.Interface o = refl
 other_kind kind.Union o = refl
-other_kind kind.InputObject o = absurd (miss other_kinds 5 tt o)
+other_kind kind.InputObject o = absurd (miss other_kinds 5 tt (opened o))
 other_kind kind.Unknown o = refl
 
 abbrev unkeyed : List ℕ
@@ -93,16 +94,16 @@ module _ (refs types fields nodes literals variables : List ℕ) (room : ℕ) wh
   -- ---- an input object
 
   module _ (type row : ℕ) (s : Shape) where
-    pub object_other : {r : Coercion} → OneOf unkeyed (tag_of shape-type s) → r ≡ literal_fails literals error.CannotCoerce row
+    pub object_other : {r : Coercion} → Among unkeyed (tag_of shape-type s) → r ≡ literal_fails literals error.CannotCoerce row
         → Checks (of_object refs types fields nodes literals variables room type row s) r
     unfolding of_object input_object place_of
     object_other o f = record { ends = λ pool names p. rw f (go pool names p s o) }
       where
-        go : (pool names : List ℕ) (p : Path) (s : Shape) → OneOf unkeyed (tag_of shape-type s)
+        go : (pool names : List ℕ) (p : Path) (s : Shape) → Among unkeyed (tag_of shape-type s)
             → Ends p (of_object refs types fields nodes literals variables room type row s pool names p) (literal_fails literals error.CannotCoerce row)
         go pool names p shape.Single o = fails literals error.CannotCoerce row p refl
         go pool names p (shape.Listed rows) o = fails literals error.CannotCoerce row p refl
-        go pool names p (shape.Keyed rows) o = absurd (miss unkeyed 2 tt o)
+        go pool names p (shape.Keyed rows) o = absurd (miss unkeyed 2 tt (opened o))
 
     module _ {given : Range} {b : Bool} (h : s ≡ shape.Keyed given) (e : b ≡ is_found (unknown_key types fields literals type (rows_in given))) where
       pub object_unknown : {r : Coercion} → b ≡ true → r ≡ literal_fails literals error.UnknownKey row
@@ -129,7 +130,7 @@ module _ (refs types fields nodes literals variables : List ℕ) (room : ℕ) wh
     named_undefined h f = record { ends = λ pool names p. rw (not_found (type_named types name) e h, f) (fails literals error.UndefinedInputType row p refl) }
 
     module _ {type : ℕ} {def : TypeDef} (h : found ≡ Row type) (d : def ≡ type_at types type) where
-      pub named_other : OneOf other_kinds (tag_of kind-type def.kind) → Checks (of_part literals room row) r
+      pub named_other : Among other_kinds (tag_of kind-type def.kind) → Checks (of_part literals room row) r
           → Checks (of_named refs types fields nodes literals variables room row s name) r
       unfolding of_named coerce_named when of_part
       named_other o q = record { ends = λ pool names p. rw (is_found_lem (type_named types name) e h, ← d, other_kind def.kind o) (q.ends pool names p) }

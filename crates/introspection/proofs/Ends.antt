@@ -4,7 +4,7 @@ use mathlib.Core.Logic.{⊎_elim, ◌⊎◌}
 use mathlib.Core.List.{List, [], ◌∷◌}
 use Prim.Native.Nat.{ℕ}
 use native.Mathlib.Omega.{arith}
-use types.Run.{OneOf}
+use borrow.Enum.Refused.{Among}
 use denote.Enum.Declared.{tag_of}
 use Rattle.graphql.specs.Depth.{Rises, and_then}
 use Rattle.graphql.specs.Depth as defined
@@ -26,7 +26,7 @@ module _ (fragments : List ℕ) {marks : List ℕ} (x : Rises → defined.Checke
 
 -- a check that did not come to a depth
 abbrev pub Stopped : Checked → Type 0
-Stopped r = OneOf (0 ∷ 1 ∷ []) (tag_of the_type r)
+Stopped r = Among (0 ∷ 1 ∷ []) (tag_of the_type r)
 
 pub stopped : (fragments : List ℕ) {r : Checked} {marks' : List ℕ} (x : defined.Checked) (k : ℕ → Rises → defined.Checked)
     → Stopped r → Ends fragments x r marks' → Ends fragments (and_then x k) r marks'

@@ -3,7 +3,8 @@ use mathlib.Core.Path.{◌≡◌, refl}
 use mathlib.Core.Bool.{Bool, true, false}
 use mathlib.Core.List.{List, [], ◌∷◌}
 use Prim.Native.Nat.{ℕ}
-use types.Run.{OneOf, miss}
+use types.Run.{miss}
+use borrow.Enum.Refused.{Among, opened}
 use denote.Enum.Declared.{tag_of}
 use Rattle.rows.specs.Schema.{type_ref_at, type_at}
 use Rattle.rows.specs.Json.{node_at, literal_at}
@@ -43,12 +44,12 @@ abbrev unnamed : List ℕ
 unnamed = 1 ∷ 2 ∷ []
 
 module _ (refs types : List ℕ) (ty : ℕ) {t : TypeRef} (e : t ≡ type_ref_at refs ty) where
-  pub container_unnamed : OneOf unnamed (tag_of ref-type t) → true ≡ is_container types (type_ref_at refs ty)
+  pub container_unnamed : Among unnamed (tag_of ref-type t) → true ≡ is_container types (type_ref_at refs ty)
   unfolding is_container
   container_unnamed o = rw (← e) (go t o)
     where
-      go : (t : TypeRef) → OneOf unnamed (tag_of ref-type t) → true ≡ is_container types t
-      go (ref.Named name nullable) o = absurd (miss unnamed 0 tt o)
+      go : (t : TypeRef) → Among unnamed (tag_of ref-type t) → true ≡ is_container types t
+      go (ref.Named name nullable) o = absurd (miss unnamed 0 tt (opened o))
       go (ref.ListOf inner nullable) o = refl
       go ref.Unknown o = refl
 
@@ -58,7 +59,7 @@ module _ (refs types : List ℕ) (ty : ℕ) {t : TypeRef} (e : t ≡ type_ref_at
     container_undefined n = rw (← e, h, not_found (type_named types name) f n)
 
     module _ {type : ℕ} {def : TypeDef} (n : found ≡ Row type) (d : def ≡ type_at types type) where
-      pub container-other : OneOf other_kinds (tag_of kind-type def.kind) → false ≡ is_container types (type_ref_at refs ty)
+      pub container-other : Among other_kinds (tag_of kind-type def.kind) → false ≡ is_container types (type_ref_at refs ty)
       unfolding is_container named_container
       container-other o = rw (← e, h, is_found_lem (type_named types name) f n, ← d, other_kind def.kind o)
 
@@ -78,14 +79,14 @@ module _ (refs types literals : List ℕ) (ty row : ℕ) {f : Form} (e : FormAt 
   unfolding coerced_sort sort_of_form
   sort_null h = rw (e.is, h)
 
-  module _ (o : OneOf no_null (tag_of form_type_lem f)) {b : Bool} (k : b ≡ is_container types (type_ref_at refs ty)) where
+  module _ (o : Among no_null (tag_of form_type_lem f)) {b : Bool} (k : b ≡ is_container types (type_ref_at refs ty)) where
     pub sort_container : b ≡ true → sort.Container ≡ said (coerced_sort refs types literals ty row)
     unfolding coerced_sort sort_of_form
     sort_container h = rw (e.is, ← k, h) (go f o)
       where
-        go : (f : Form) → OneOf no_null (tag_of form_type_lem f)
+        go : (f : Form) → Among no_null (tag_of form_type_lem f)
             → sort.Container ≡ said (sort_of_form (form_meant f) true (literal_sort (literal_at literals row)))
-        go form.Null o = absurd (miss no_null 0 tt o)
+        go form.Null o = absurd (miss no_null 0 tt (opened o))
         go (form.Variable name) o = refl
         go (form.Shaped s) o = refl
 
@@ -93,8 +94,8 @@ module _ (refs types literals : List ℕ) (ty row : ℕ) {f : Form} (e : FormAt 
     unfolding coerced_sort sort_of_form
     sort_own {r} h i = rw (e.is, ← k, h) (go f o)
       where
-        go : (f : Form) → OneOf no_null (tag_of form_type_lem f) → r ≡ said (sort_of_form (form_meant f) false (literal_sort (literal_at literals row)))
-        go form.Null o = absurd (miss no_null 0 tt o)
+        go : (f : Form) → Among no_null (tag_of form_type_lem f) → r ≡ said (sort_of_form (form_meant f) false (literal_sort (literal_at literals row)))
+        go form.Null o = absurd (miss no_null 0 tt (opened o))
         go (form.Variable name) o = i
         go (form.Shaped s) o = i
 

@@ -5,7 +5,8 @@ use mathlib.Core.List.{List, [], ◌∷◌}
 use mathlib.Core.Option.{some}
 use Prim.Native.Nat.{ℕ, ◌+◌, ◌*◌}
 use native.Mathlib.Omega.{arith}
-use types.Run.{OneOf, miss}
+use types.Run.{miss}
+use borrow.Enum.Refused.{Among, opened}
 use denote.Enum.Declared.{tag_of}
 use Rattle.rows.specs.Strings.{text_of}
 use Rattle.rows.specs.Names.{name_text}
@@ -43,18 +44,18 @@ module _ (pool nodes : List ℕ) (row : ℕ) {n : Node} (e : n ≡ node_at nodes
   unfolding bytes_of string_of plain_value
   node_string h b = rw (← e, h, b)
 
-  pub node_other : OneOf other_nodes (tag_of node-type n) → [] ≡ bytes_of (string_of (plain_value pool (node_at nodes row)))
+  pub node_other : Among other_nodes (tag_of node-type n) → [] ≡ bytes_of (string_of (plain_value pool (node_at nodes row)))
   unfolding bytes_of string_of plain_value
   node_other o = rw (← e) (go n o)
     where
-      go : (n : Node) → OneOf other_nodes (tag_of node-type n) → [] ≡ bytes_of (string_of (plain_value pool n))
+      go : (n : Node) → Among other_nodes (tag_of node-type n) → [] ≡ bytes_of (string_of (plain_value pool n))
       go node.Null o = refl
       go node.False o = refl
       go node.True o = refl
       go (node.Natural low high) o = refl
       go (node.Negative low high) o = refl
       go (node.Float text) o = refl
-      go (node.String text) o = absurd (miss other_nodes 6 tt o)
+      go (node.String text) o = absurd (miss other_nodes 6 tt (opened o))
       go (node.Array rows) o = refl
       go (node.Object rows) o = refl
       go node.Unknown o = refl
@@ -73,21 +74,21 @@ module _ (pool names literals : List ℕ) (row : ℕ) {l : Literal} (e : l ≡ l
   unfolding bytes_of string_of plain_literal
   literal_enum h b = rw (← e, h, b)
 
-  pub literal_other : OneOf other_literals (tag_of literal-type l) → [] ≡ bytes_of (string_of (plain_literal pool names (literal_at literals row)))
+  pub literal_other : Among other_literals (tag_of literal-type l) → [] ≡ bytes_of (string_of (plain_literal pool names (literal_at literals row)))
   unfolding bytes_of string_of plain_literal
   literal_other o = rw (← e) (go l o)
     where
-      go : (l : Literal) → OneOf other_literals (tag_of literal-type l) → [] ≡ bytes_of (string_of (plain_literal pool names l))
+      go : (l : Literal) → Among other_literals (tag_of literal-type l) → [] ≡ bytes_of (string_of (plain_literal pool names l))
       go literal.Null o = refl
       go literal.False o = refl
       go literal.True o = refl
       go (literal.Natural n) o = refl
       go (literal.Negative m) o = refl
       go (literal.Float text) o = refl
-      go (literal.String text) o = absurd (miss other_literals 6 tt o)
+      go (literal.String text) o = absurd (miss other_literals 6 tt (opened o))
       go (literal.List rows) o = refl
       go (literal.Object rows) o = refl
-      go (literal.Enum name) o = absurd (miss other_literals 9 tt o)
+      go (literal.Enum name) o = absurd (miss other_literals 9 tt (opened o))
       go (literal.Variable name) o = refl
       go literal.Unknown o = refl
 

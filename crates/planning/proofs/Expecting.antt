@@ -7,7 +7,8 @@ use Prim.Native.Nat.{ℕ, ◌+◌, ◌-◌, ◌≤◌, ◌<◌}
 use native.Mathlib.Nat.{zero-add}
 use native.Mathlib.Omega.{arith}
 use lib.Dec.{eqb, ltb}
-use types.Run.{OneOf, miss}
+use types.Run.{miss}
+use borrow.Enum.Refused.{Among, opened}
 use denote.Enum.Declared.{tag_of}
 use borrow.Author.Tests.{eq-eqb, ne_eqb, lt-ltb, le-ltb}
 use Rattle.rows.specs.Layout.{type_width}
@@ -66,15 +67,15 @@ module _ (types : List ℕ) (name : ℕ) {found : Optional} (e : found ≡ row_o
       unfolding of_kind
       named-object k q = rw (by_kind nullable h read, k) q
 
-      pub named_other : OneOf others (tag_of kinds.the_type def.kind) → r ≡ with' false 0 0 → r
+      pub named_other : Among others (tag_of kinds.the_type def.kind) → r ≡ with' false 0 0 → r
           ≡ expected_named types name nullable (type_named types name)
       unfolding of_kind
       named_other o q = rw (by_kind nullable h read) (q ∙ go def.kind o)
         where
-          go : (k : TypeKind) → OneOf others (tag_of kinds.the_type k) → care ≡ of_kind nullable name row k
-          go kind.Scalar o = absurd (miss others 0 tt o)
-          go kind.Enum o = absurd (miss others 1 tt o)
-          go kind.Object o = absurd (miss others 2 tt o)
+          go : (k : TypeKind) → Among others (tag_of kinds.the_type k) → care ≡ of_kind nullable name row k
+          go kind.Scalar o = absurd (miss others 0 tt (opened o))
+          go kind.Enum o = absurd (miss others 1 tt (opened o))
+          go kind.Object o = absurd (miss others 2 tt (opened o))
           go kind.Interface o = refl
           go kind.Union o = refl
           go kind.InputObject o = refl

@@ -7,7 +7,7 @@ use native.Mathlib.Omega.{arith}
 use borrow.Author.Tests.{le-leb, lt-leb}
 use lib.ListN.{length, take, replicate}
 use lib.Seq.{take_at, length-take-le}
-use types.Run.{OneOf}
+use borrow.Enum.Refused.{Among}
 use denote.Enum.Declared.{tag_of}
 use Rattle.writing.specs.Wrote.{Wrote, Writes, zeroed_from}
 use Rattle.tokens.specs.Literal.{null_name}
@@ -126,7 +126,7 @@ stop_of (failed here w c) e = absurd (let z : ◌≡◌ {A = ℕ} 0 1 = cc in om
 stop_of (failed past_list w c) e = absurd (let z : ◌≡◌ {A = ℕ} 0 1 = cc in omega arith)
 stop_of (done v w c) e = absurd (let z : ◌≡◌ {A = ℕ} 0 1 = cc in omega arith)
 
-failed_of : (x : Res Data) {f : Failure} → OneOf (0 ∷ 1 ∷ []) (tag_of failures f) → Fails f ≡ answer_of as_data x
+failed_of : (x : Res Data) {f : Failure} → Among (0 ∷ 1 ∷ []) (tag_of failures f) → Fails f ≡ answer_of as_data x
     → (r : Reach) × (log : Log) × (c : Choices) × (x ≡ failed r log c)
 failed_of (stop n w) {f} k e = absurd (not_stop (cc))
   where
@@ -156,7 +156,7 @@ module _ {text errors text' errors' : List ℕ} {d : Done} {r : Reported} where
         rw (p.1, ← h.wrote, ← h.noted.long) k;
   }
 
-  pub end_failed : {f : Failure} {text1 : List ℕ} {at : ℕ} → d.what ≡ Fails f → OneOf (0 ∷ 1 ∷ []) (tag_of failures f)
+  pub end_failed : {f : Failure} {text1 : List ℕ} {at : ℕ} → d.what ≡ Fails f → Among (0 ∷ 1 ∷ []) (tag_of failures f)
       → Writes text text1 0 at null_name → ReportsWritten text1 errors at d.state.errs r text' errors' → ReportsEnd text errors d r text' errors'
   unfolding ended print_data
   end_failed e o w k = record {

@@ -5,7 +5,7 @@ use mathlib.Core.Bool.{true}
 use mathlib.Core.List.{List, [], ◌∷◌}
 use Prim.Native.Nat.{ℕ, ◌+◌, ◌≤◌}
 use native.Mathlib.Omega.{arith}
-use types.Run.{OneOf}
+use borrow.Enum.Refused.{Among}
 use denote.Enum.Declared.{tag_of}
 use lib.ListN.{replicate, length-replicate}
 use Rattle.rows.specs.Layout.{type_width}
@@ -52,7 +52,7 @@ pub rows_object : {a b : Answer} {name : ℕ} {rows : Range} → a ≡ b → a �
 unfolding rows_of_object
 rows_object e f = rw (← e, f)
 
-no_rows : (a : Answer) → OneOf (0 ∷ 1 ∷ 2 ∷ 3 ∷ 5 ∷ 6 ∷ []) (tag_of answers a) → record { first = 0; count = 0 } ≡ rows_of_object a
+no_rows : (a : Answer) → Among (0 ∷ 1 ∷ 2 ∷ 3 ∷ 5 ∷ 6 ∷ []) (tag_of answers a) → record { first = 0; count = 0 } ≡ rows_of_object a
 unfolding rows_of_object
 no_rows answer.Skip o = refl
 no_rows answer.Error o = refl
@@ -64,7 +64,7 @@ no_rows (answer.Object n rows) o =
 no_rows (answer.Echo n) o = refl
 no_rows answer.Unknown o = refl
 
-pub rows_other : {a b : Answer} → a ≡ b → OneOf (0 ∷ 1 ∷ 2 ∷ 3 ∷ 5 ∷ 6 ∷ []) (tag_of answers a) → record { first = 0; count = 0 } ≡ rows_of_object b
+pub rows_other : {a b : Answer} → a ≡ b → Among (0 ∷ 1 ∷ 2 ∷ 3 ∷ 5 ∷ 6 ∷ []) (tag_of answers a) → record { first = 0; count = 0 } ≡ rows_of_object b
 rows_other {a} e o = rw (← e) (no_rows a o)
 
 rows_led : (a : Answer) → Leads a → (rows_of_object a).first + (rows_of_object a).count ≤ most_answers
@@ -114,7 +114,7 @@ module _ (T : Tables) where
   unfolding execute execute_selection_set ◌>>=◌ onward
   stops cs s = rw (s.stops cs)
 
-  pub stopped_before : (cs text errors : List ℕ) (r : Planned) {store store' : List ℕ} {d : Done} → OneOf (1 ∷ 2 ∷ 3 ∷ []) (tag_of plannings r)
+  pub stopped_before : (cs text errors : List ℕ) (r : Planned) {store store' : List ℕ} {d : Done} → Among (1 ∷ 2 ∷ 3 ∷ []) (tag_of plannings r)
       → PlansOperation store r store' → d ≡ stopped_by r → Gives as_data cs text errors at_start (execute (record { tables = T }) cs) d text errors
   unfolding halt
   stopped_before cs text errors (planned.At plan top) o p e =

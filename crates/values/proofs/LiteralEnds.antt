@@ -4,7 +4,8 @@ use mathlib.Core.List.{List, [], ◌∷◌}
 use Prim.Native.Nat.{ℕ}
 use native.Mathlib.Omega.{arith}
 use lib.ListN.{length}
-use types.Run.{OneOf, miss}
+use types.Run.{miss}
+use borrow.Enum.Refused.{Among, opened}
 use denote.Enum.Declared.{tag_of}
 use Rattle.writing.specs.Wrote.{Writes}
 use Rattle.codes.specs.Outcome.{too_far, variable_in_literal}
@@ -46,13 +47,13 @@ module _ {m : M Json} {before after : List ℕ} {at : ℕ} {r : PutLiteral} (q :
       go variable is put = let w = put.is in absurd (let z : ◌≡◌ {A = ℕ} 0 1 = cc in omega arith)
 
   -- what stops where this one does ends as it did
-  pub stops_too : {m' : M Json} {before' : List ℕ} {at' : ℕ} → OneOf stops (tag_of the_type r) → length before ≡ length before'
+  pub stops_too : {m' : M Json} {before' : List ℕ} {at' : ℕ} → Among stops (tag_of the_type r) → length before ≡ length before'
       → ((s : ℕ) → ((c : Choices) → m c ≡ stop s []) → (c : Choices) → m' c ≡ stop s []) → PutsAs m' before' at' r after
   unfolding ended_as halt
   stops_too {m'} {before'} {at'} o l k = go q.ending q.is q.put
     where
       go : (v : Ending) → ((c : Choices) → m c ≡ ended_as v c) → EndsAs v before at r after → PutsAs m' before' at' r after
-      go (there j) is put = absurd (miss stops 0 tt (rw put.is at o))
+      go (there j) is put = absurd (miss stops 0 tt (opened (rw put.is at o)))
       go far is put = rw put.is (ends_too_far (k too_far is) (put.long ∙ l))
       go variable is put = rw put.is (ends_at_variable (k variable_in_literal is) (put.long ∙ l))
 

@@ -5,7 +5,8 @@ use mathlib.Core.Bool.{Bool, true, false}
 use mathlib.Core.List.{List, [], ◌∷◌}
 use Prim.Native.Nat.{ℕ, zero, suc, ◌+◌, ◌-◌, ◌≤◌, ◌<◌}
 use native.Mathlib.Omega.{arith}
-use types.Run.{OneOf, miss}
+use types.Run.{miss}
+use borrow.Enum.Refused.{Among, opened}
 use denote.Enum.Declared.{tag_of}
 use Rattle.rows.specs.Limits.{most_literals}
 use Rattle.rows.specs.Strings.{text_of}
@@ -41,18 +42,18 @@ use Rattle.values.proofs.Going.{Going, going_begin, part-written, part-stops, pa
 abbrev nulls : List ℕ
 nulls = 0 ∷ 7 ∷ 8 ∷ 10 ∷ 11 ∷ []
 
-plain_null : (pool names : List ℕ) (l : Literal) → OneOf nulls (tag_of the_type l) → plain_literal pool names l ≡ null
+plain_null : (pool names : List ℕ) (l : Literal) → Among nulls (tag_of the_type l) → plain_literal pool names l ≡ null
 unfolding plain_literal
 plain_null pool names literal.Null o = refl
-plain_null pool names literal.False o = absurd (miss nulls 1 tt o)
-plain_null pool names literal.True o = absurd (miss nulls 2 tt o)
-plain_null pool names (literal.Natural n) o = absurd (miss nulls 3 tt o)
-plain_null pool names (literal.Negative m) o = absurd (miss nulls 4 tt o)
-plain_null pool names (literal.Float text) o = absurd (miss nulls 5 tt o)
-plain_null pool names (literal.String text) o = absurd (miss nulls 6 tt o)
+plain_null pool names literal.False o = absurd (miss nulls 1 tt (opened o))
+plain_null pool names literal.True o = absurd (miss nulls 2 tt (opened o))
+plain_null pool names (literal.Natural n) o = absurd (miss nulls 3 tt (opened o))
+plain_null pool names (literal.Negative m) o = absurd (miss nulls 4 tt (opened o))
+plain_null pool names (literal.Float text) o = absurd (miss nulls 5 tt (opened o))
+plain_null pool names (literal.String text) o = absurd (miss nulls 6 tt (opened o))
 plain_null pool names (literal.List rows) o = refl
 plain_null pool names (literal.Object rows) o = refl
-plain_null pool names (literal.Enum name) o = absurd (miss nulls 9 tt o)
+plain_null pool names (literal.Enum name) o = absurd (miss nulls 9 tt (opened o))
 plain_null pool names (literal.Variable name) o = refl
 plain_null pool names literal.Unknown o = refl
 
@@ -91,7 +92,7 @@ module _ (pool names : List ℕ) {text text' : List ℕ} {at end : ℕ} (l : Lit
     unfolding print plain_literal
     puts_enum read e w = rw (e, ← read) w
 
-  pub puts_null : OneOf nulls (tag_of the_type l) → Writes text text' at end null_name → Writes text text' at end (print (plain_literal pool names l))
+  pub puts_null : Among nulls (tag_of the_type l) → Writes text text' at end null_name → Writes text text' at end (print (plain_literal pool names l))
   unfolding print
   puts_null o w = rw (plain_null pool names l o) w
 
@@ -104,7 +105,7 @@ abbrev plains : List ℕ
 plains = 0 ∷ 1 ∷ 2 ∷ 3 ∷ 4 ∷ 5 ∷ 6 ∷ 9 ∷ 11 ∷ []
 
 module _ (pool names literals : List ℕ) where
-  value_plain : (room : ℕ) (inside : ℕ → M Json) (l : Literal) → OneOf plains (tag_of the_type l)
+  value_plain : (room : ℕ) (inside : ℕ → M Json) (l : Literal) → Among plains (tag_of the_type l)
       → parts_of pool names literals room inside l ≡ pure (plain_literal pool names l)
   unfolding parts_of plain_literal
   value_plain room inside literal.Null o = refl
@@ -114,10 +115,10 @@ module _ (pool names literals : List ℕ) where
   value_plain room inside (literal.Negative m) o = refl
   value_plain room inside (literal.Float text) o = refl
   value_plain room inside (literal.String text) o = refl
-  value_plain room inside (literal.List rows) o = absurd (miss plains 7 tt o)
-  value_plain room inside (literal.Object rows) o = absurd (miss plains 8 tt o)
+  value_plain room inside (literal.List rows) o = absurd (miss plains 7 tt (opened o))
+  value_plain room inside (literal.Object rows) o = absurd (miss plains 8 tt (opened o))
   value_plain room inside (literal.Enum name) o = refl
-  value_plain room inside (literal.Variable name) o = absurd (miss plains 10 tt o)
+  value_plain room inside (literal.Variable name) o = absurd (miss plains 10 tt (opened o))
   value_plain room inside literal.Unknown o = refl
 
   parts_are : (room : ℕ) (parts : Parts)
@@ -132,7 +133,7 @@ module _ (pool names literals : List ℕ) (room row : ℕ) {l : Literal} (read :
   unfolding parts_of halt
   literal_variable e = ends_at_variable (λ c. rw (literal_is pool names literals room row, ← read, e)) refl
 
-  pub literal_plain : {text' : List ℕ} {end : ℕ} → OneOf plains (tag_of the_type l) → Writes text text' at end (print (plain_literal pool names l))
+  pub literal_plain : {text' : List ℕ} {end : ℕ} → Among plains (tag_of the_type l) → Writes text text' at end (print (plain_literal pool names l))
       → PutsLiteral pool names literals room row text at (At end) text'
   unfolding pure
   literal_plain o w =
@@ -192,7 +193,7 @@ module _ (pool names literals : List ℕ) (room : ℕ) (parts : Parts) where
     pub parts_stopped : {text1 : List ℕ} {value : ℕ} {r : PutLiteral} → i < parts.rows.count
         → Writes text text1 next value (label parts.keyed (key (parts.rows.first + i)))
         → PutsLiteral pool names literals (room - 1) (parts.rows.first + i) text1 value r text2
-        → OneOf stops (tag_of put.the_type r) → PutsParts pool names literals room parts text₀ at r text2
+        → Among stops (tag_of put.the_type r) → PutsParts pool names literals room parts text₀ at r text2
     unfolding rows_in
     parts_stopped l w q o =
         rw (opens z)

@@ -4,7 +4,8 @@ use mathlib.Core.Bool.{Bool, true, false}
 use mathlib.Core.List.{List, [], ◌∷◌}
 use Prim.Native.Nat.{ℕ, ◌+◌, ◌*◌}
 use native.Mathlib.Omega.{arith}
-use types.Run.{OneOf, miss}
+use types.Run.{miss}
+use borrow.Enum.Refused.{Among, opened}
 use denote.Enum.Declared.{tag_of}
 use Rattle.rows.specs.Strings.{text_of}
 use Rattle.rows.specs.declared.strings.Text.{Text}
@@ -28,15 +29,15 @@ use Rattle.values.specs.declared.node.Shape.TheVariants.{Plain, Container}
 abbrev nulls : List ℕ
 nulls = 0 ∷ 7 ∷ 8 ∷ 9 ∷ []
 
-plain_null : (pool : List ℕ) (n : Node) → OneOf nulls (tag_of the_type n) → plain_value pool n ≡ null
+plain_null : (pool : List ℕ) (n : Node) → Among nulls (tag_of the_type n) → plain_value pool n ≡ null
 unfolding plain_value
 plain_null pool node.Null o = refl
-plain_null pool node.False o = absurd (miss nulls 1 tt o)
-plain_null pool node.True o = absurd (miss nulls 2 tt o)
-plain_null pool (node.Natural low high) o = absurd (miss nulls 3 tt o)
-plain_null pool (node.Negative low high) o = absurd (miss nulls 4 tt o)
-plain_null pool (node.Float text) o = absurd (miss nulls 5 tt o)
-plain_null pool (node.String text) o = absurd (miss nulls 6 tt o)
+plain_null pool node.False o = absurd (miss nulls 1 tt (opened o))
+plain_null pool node.True o = absurd (miss nulls 2 tt (opened o))
+plain_null pool (node.Natural low high) o = absurd (miss nulls 3 tt (opened o))
+plain_null pool (node.Negative low high) o = absurd (miss nulls 4 tt (opened o))
+plain_null pool (node.Float text) o = absurd (miss nulls 5 tt (opened o))
+plain_null pool (node.String text) o = absurd (miss nulls 6 tt (opened o))
 plain_null pool (node.Array rows) o = refl
 plain_null pool (node.Object rows) o = refl
 plain_null pool node.Unknown o = refl
@@ -68,7 +69,7 @@ module _ (pool : List ℕ) {text text' : List ℕ} {at end : ℕ} (n : Node) whe
     unfolding print plain_value
     puts_string e w = rw (e, ← read) w
 
-  pub puts_null : OneOf nulls (tag_of the_type n) → Writes text text' at end null_name → Writes text text' at end (print (plain_value pool n))
+  pub puts_null : Among nulls (tag_of the_type n) → Writes text text' at end null_name → Writes text text' at end (print (plain_value pool n))
   unfolding print
   puts_null o w = rw (plain_null pool n o) w
 
@@ -80,7 +81,7 @@ pub ruleset plain = (puts_false, puts_true, puts_natural, puts_negative, puts_fl
 abbrev plains : List ℕ
 plains = 0 ∷ 1 ∷ 2 ∷ 3 ∷ 4 ∷ 5 ∷ 6 ∷ 9 ∷ []
 
-pub shape_plain : (n : Node) → OneOf plains (tag_of the_type n) → Plain ≡ shape_of n
+pub shape_plain : (n : Node) → Among plains (tag_of the_type n) → Plain ≡ shape_of n
 shape_plain node.Null o = refl
 shape_plain node.False o = refl
 shape_plain node.True o = refl
@@ -88,8 +89,8 @@ shape_plain (node.Natural low high) o = refl
 shape_plain (node.Negative low high) o = refl
 shape_plain (node.Float text) o = refl
 shape_plain (node.String text) o = refl
-shape_plain (node.Array rows) o = absurd (miss plains 7 tt o)
-shape_plain (node.Object rows) o = absurd (miss plains 8 tt o)
+shape_plain (node.Array rows) o = absurd (miss plains 7 tt (opened o))
+shape_plain (node.Object rows) o = absurd (miss plains 8 tt (opened o))
 shape_plain node.Unknown o = refl
 
 -- a container is an array or an object

@@ -5,7 +5,7 @@ use mathlib.Core.Bool.{Bool, true, false}
 use mathlib.Core.List.{List, [], ◌∷◌}
 use Prim.Native.Nat.{ℕ}
 use native.Mathlib.Omega.{arith}
-use types.Run.{OneOf}
+use borrow.Enum.Refused.{Among}
 use denote.Enum.Declared.{tag_of}
 use Rattle.writing.specs.Wrote.{Wrote, Writes}
 use Rattle.writing.proofs.WroteLaws.{back, «then»}
@@ -35,10 +35,10 @@ settled_placed false (failed here w c) e = absurd (let z : ◌≡◌ {A = ℕ} 0
 settled_placed false (failed past_list w c) e = refl
 settled_placed false (done v w c) e = refl
 
-not_here : {f : Failure} → OneOf (1 ∷ 2 ∷ []) (tag_of failures f) → f ≡ Here → ⊥
+not_here : {f : Failure} → Among (1 ∷ 2 ∷ []) (tag_of failures f) → f ≡ Here → ⊥
 not_here k e = ⊎_elim (λ h. omega arith) (λ h. omega arith) (rw e at k)
 
-settled_further : (b : Bool) (x : Res Val) {f : Failure} → Fails f ≡ answer_of as_value x → OneOf (1 ∷ 2 ∷ []) (tag_of failures f) → settled b x ≡ x
+settled_further : (b : Bool) (x : Res Val) {f : Failure} → Fails f ≡ answer_of as_value x → Among (1 ∷ 2 ∷ []) (tag_of failures f) → settled b x ≡ x
 unfolding caught
 settled_further true x e k = refl
 settled_further false (stop s w) e k = refl
@@ -50,7 +50,7 @@ module _ {b : Bool} {d : Done} {text : List ℕ} where
   pub nullify_placed : {k : Kind} → d.what ≡ Placed k → Nullifies b d text d text
   nullify_placed e = record { level = refl; long = refl; nullifies = λ cs before errors errors' s x g. rw (settled_placed b x (sym e ∙ g.what)) g }
 
-  pub nullify_further : {f : Failure} → d.what ≡ Fails f → OneOf (1 ∷ 2 ∷ []) (tag_of failures f) → Nullifies b d text d text
+  pub nullify_further : {f : Failure} → d.what ≡ Fails f → Among (1 ∷ 2 ∷ []) (tag_of failures f) → Nullifies b d text d text
   nullify_further e k = record { level = refl; long = refl; nullifies = λ cs before errors errors' s x g. rw (settled_further b x (sym e ∙ g.what) k) g }
 
   pub nullify_non_null : b ≡ true → Nullifies b d text d text
@@ -77,12 +77,12 @@ same_what d e = λ i. record { what = e i; state = d.state }
 pub past_placed : (d : Done) {k : Kind} → d.what ≡ Placed k → d ≡ passed_list d
 past_placed d e = same_what d (rw e)
 
-other : (f : Failure) → OneOf (0 ∷ 2 ∷ []) (tag_of failures f) → f ≡ lower f
+other : (f : Failure) → Among (0 ∷ 2 ∷ []) (tag_of failures f) → f ≡ lower f
 other Here k = refl
 other PastList k = absurd (⊎_elim (λ h. omega arith) (λ h. omega arith) k)
 other (Stop code) k = refl
 
-pub past_other : (d : Done) {f : Failure} → d.what ≡ Fails f → OneOf (0 ∷ 2 ∷ []) (tag_of failures f) → d ≡ passed_list d
+pub past_other : (d : Done) {f : Failure} → d.what ≡ Fails f → Among (0 ∷ 2 ∷ []) (tag_of failures f) → d ≡ passed_list d
 past_other d {f} e k = same_what d (rw e (ap Fails (other f k)))
 
 pub past_past : (d : Done) {f : Failure} → d.what ≡ Fails f → f ≡ PastList → record { what = Fails Here; state = d.state } ≡ passed_list d
@@ -105,7 +105,7 @@ module _ {start : ℕ} {d : Done} where
     settles = λ cs text text1 text2 errors errors' label s next x p g. rw q (taken_back s (fall_of as_value x (sym e ∙ g.what)) p g);
   }
 
-  pub settle_kept : {k : Kind} → d.what ≡ Placed k → OneOf (1 ∷ 2 ∷ 3 ∷ 4 ∷ []) (tag_of kinds k) → Settles start d d
+  pub settle_kept : {k : Kind} → d.what ≡ Placed k → Among (1 ∷ 2 ∷ 3 ∷ 4 ∷ []) (tag_of kinds k) → Settles start d d
   settle_kept {k} e o = record { level = refl; settles = λ cs text text1 text2 errors errors' label s next x p g. go s x p g (sym e ∙ g.what) }
     where
       go : {cs text text1 text2 errors errors' label : List ℕ} (s : State) {next : ℕ} (x : Res Val) → Wrote text text1 start next label

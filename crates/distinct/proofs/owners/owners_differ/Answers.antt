@@ -9,10 +9,10 @@ pub selections_claim-requires : goal.selections_claim-requires
 selections_claim-requires c = selections_first _
 
 pub returns-then-not-selections_claim : goal.returns-then-not-selections_claim
-returns-then-not-selections_claim c = rw (falsified c.selections_claim.result _ c.selections_claim.ensures.0 c.if-not-selections_claim.true-raw)
+returns-then-not-selections_claim c = rw (falsified c.selections_claim.result _ c.selections_claim.ensures.value c.if-not-selections_claim.true-raw)
 
 pub fragments_claim-requires : goal.fragments_claim-requires
-fragments_claim-requires c = fragments_first _ _ _ (c.selections_claim.ensures.1 (verified c.selections_claim.result _ refl c.if-not-selections_claim.false-raw))
+fragments_claim-requires c = fragments_first _ _ _ (c.selections_claim.ensures.marked (verified c.selections_claim.result _ refl c.if-not-selections_claim.false-raw))
 
 pub returns : goal.returns
-returns c = rw (verified c.selections_claim.result _ c.selections_claim.ensures.0 c.if-not-selections_claim.false-raw) c.fragments_claim.ensures
+returns c = rw (verified c.selections_claim.result _ c.selections_claim.ensures.value c.if-not-selections_claim.false-raw) c.fragments_claim.ensures

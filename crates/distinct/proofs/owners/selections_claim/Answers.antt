@@ -14,16 +14,16 @@ pub loop-row-init : goal.loop-row-init
 loop-row-init c = (search rules, all_none _, c.requires)
 
 pub shape_of-marks-then-not-selection_claims : goal.shape_of-marks-then-not-selection_claims
-shape_of-marks-then-not-selection_claims c = c.selection_claims.ensures.1.sized ∙ sym c.requires.sized
+shape_of-marks-then-not-selection_claims c = c.selection_claims.ensures.marked.sized ∙ sym c.requires.sized
 
 pub returns-then-not-selection_claims : goal.returns-then-not-selection_claims
-returns-then-not-selection_claims c = record { value = rw (← c.row_count-rows.ensures) (all_broken _ c.loop-row.row _ c.selection_claims.result c.loop-row-test.true c.selection_claims.ensures.0 c.if-not-selection_claims.true-raw); marked = λ e. absurd (false≢true e) }
+returns-then-not-selection_claims c = record { value = rw (← c.row_count-rows.ensures) (all_broken _ c.loop-row.row _ c.selection_claims.result c.loop-row-test.true c.selection_claims.ensures.value c.if-not-selection_claims.true-raw); marked = λ e. absurd (false≢true e) }
 
 pub loop-row-preserved : goal.loop-row-preserved
 loop-row-preserved c = (
   search rules,
-  all_more _ c.loop-row.row c.selection_claims.result c.loop-row.invariant.1 c.selection_claims.ensures.0 c.if-not-selection_claims.false-raw,
-  c.selection_claims.ensures.1,
+  all_more _ c.loop-row.row c.selection_claims.result c.loop-row.invariant.1 c.selection_claims.ensures.value c.if-not-selection_claims.false-raw,
+  c.selection_claims.ensures.marked,
 )
 
 pub shape_of-marks : goal.shape_of-marks

@@ -13,7 +13,7 @@ pub first_unlooked-row-requires : goal.first_unlooked-row-requires
 first_unlooked-row-requires c = record { skips = c.requires.skips; from_le_most_selections = omega (arith, c.requires.count_bound) }
 
 pub loop-row-init : goal.loop-row-init
-loop-row-init c = (c.first_unlooked-row.ensures.0, c.first_unlooked-row.ensures.1)
+loop-row-init c = (c.first_unlooked-row.ensures.skips_2, c.first_unlooked-row.ensures.larger_up_to)
 
 pub child_is_larger-requires : goal.child_is_larger-requires
 child_is_larger-requires c = omega (arith, c.loop-row.invariant.1.high)
@@ -43,10 +43,10 @@ pub first_unlooked-row-requires-in-loop-row : goal.first_unlooked-row-requires-i
 first_unlooked-row-requires-in-loop-row c = let under : c.loop-row.row < 2048 = omega (arith, c.loop-row-test.true, c.requires.count_bound) in record { skips = skips_set _ _ _ c.loop-row.invariant.0 c.loop-row.row (c.loop-row.row + 1) (omega arith) (omega arith) (λ j a b. let same : c.loop-row.row ≡ j = omega arith in rw (← same) (verified _ _ c.child_is_larger.ensures c.if-not-child_is_larger.false-raw)); from_le_most_selections = omega arith }
 
 pub loop-row-smaller : goal.loop-row-smaller
-loop-row-smaller c = omega (arith, c.first_unlooked-row-in-loop-row.ensures.1.low, c.loop-row.invariant.1.high)
+loop-row-smaller c = omega (arith, c.first_unlooked-row-in-loop-row.ensures.larger_up_to.low, c.loop-row.invariant.1.high)
 
 pub loop-row-preserved : goal.loop-row-preserved
-loop-row-preserved c = (c.first_unlooked-row-in-loop-row.ensures.0, larger_more _ _ _ c.loop-row.row _ c.loop-row.invariant.1 (verified _ _ c.child_is_larger.ensures c.if-not-child_is_larger.false-raw) c.first_unlooked-row-in-loop-row.ensures.1)
+loop-row-preserved c = (c.first_unlooked-row-in-loop-row.ensures.skips_2, larger_more _ _ _ c.loop-row.row _ c.loop-row.invariant.1 (verified _ _ c.child_is_larger.ensures c.if-not-child_is_larger.false-raw) c.first_unlooked-row-in-loop-row.ensures.larger_up_to)
 
 pub shape_of-skips : goal.shape_of-skips
 shape_of-skips c = omega (arith, c.loop-row.invariant.0.room, c.requires.skips.room)

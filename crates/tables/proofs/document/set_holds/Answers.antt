@@ -22,4 +22,4 @@ children_are_larger-requires c = let rows = set_at c.args.sets.now c.args.set in
 
 pub returns : goal.returns
 unfolding set_holds
-returns c = record { value = rw (← c.requires.count_value.0, ← c.set_row.ensures, turned_true c.set_row.result c.if-not-set_row.false-raw, ← c.set_at.ensures) c.children_are_larger.ensures.0; skips_2 = c.children_are_larger.ensures.1 }
+returns c = record { value = rw (← c.requires.count_value.0, ← c.set_row.ensures, turned_true c.set_row.result c.if-not-set_row.false-raw, ← c.set_at.ensures) c.children_are_larger.ensures.value; skips_2 = c.children_are_larger.ensures.skips_2 }
