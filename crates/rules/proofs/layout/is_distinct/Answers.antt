@@ -18,7 +18,7 @@ is_new_by_marks-requires c = record { width_bound = search rules; met = search r
 
 pub returns-then-not-is_new_by_marks : goal.returns-then-not-is_new_by_marks
 unfolding distinct
-returns-then-not-is_new_by_marks c = all_broken _ c.loop-i.i _ c.is_new_by_marks.result c.type_inv.marks.true c.is_new_by_marks.ensures.value c.if-not-is_new_by_marks.true-raw
+returns-then-not-is_new_by_marks c = all_broken _ c.loop-i.i _ c.is_new_by_marks.result c.loop-i-test.true c.is_new_by_marks.ensures.value c.if-not-is_new_by_marks.true-raw
 
 pub loop-i-preserved : goal.loop-i-preserved
 loop-i-preserved c = (search rules, all_more _ c.loop-i.i c.is_new_by_marks.result c.loop-i.invariant.1 c.is_new_by_marks.ensures.value c.if-not-is_new_by_marks.false-raw, c.is_new_by_marks.ensures.met_2)

@@ -34,13 +34,13 @@ pub set_holds-requires : goal.set_holds-requires
 set_holds-requires c = record { skips = skips_smaller _ _ c.loop-set.set _ (omega arith) c.loop-set.invariant.1; count_value = (c.row_count-count.ensures, omega (arith, c.row_count-count.ensures, c.requires)) }
 
 pub returns-then-not-set_holds : goal.returns-then-not-set_holds
-returns-then-not-set_holds c = all_broken _ (c.loop-set.set - 1) _ c.set_holds.result (omega (arith, c.loop-set.invariant.0, c.type_inv.skips.true)) c.set_holds.ensures.value c.if-not-set_holds.true-raw
+returns-then-not-set_holds c = all_broken _ (c.loop-set.set - 1) _ c.set_holds.result (omega (arith, c.loop-set.invariant.0, c.loop-set-test.true)) c.set_holds.ensures.value c.if-not-set_holds.true-raw
 
 pub loop-set-preserved : goal.loop-set-preserved
 loop-set-preserved c = (
   omega (arith, c.loop-set.invariant.0),
   c.set_holds.ensures.skips_2,
-  one_more _ _ c.loop-set.set _ c.set_holds.result c.type_inv.skips.true c.loop-set.invariant.2 c.set_holds.ensures.value c.if-not-set_holds.false-raw,
+  one_more _ _ c.loop-set.set _ c.set_holds.result c.loop-set-test.true c.loop-set.invariant.2 c.set_holds.ensures.value c.if-not-set_holds.false-raw,
 )
 
 pub returns : goal.returns
