@@ -1,6 +1,6 @@
 -- A rotation by three reversals, and what was written last in its place among the rest. Of two runs side by side, reversing each and then both gives
 -- the second before the first, since a reversal of x and then y is y's reversal and then x's. Assumes nothing.
-use mathlib.Core.Path.{◌≡◌, sym, ap, ◌∙◌}
+use mathlib.Core.Path.{◌≡◌, refl, sym, ap, ◌∙◌}
 use mathlib.Core.Bool.{and-false}
 use mathlib.Core.List.{List, [], ◌∷◌, ◌++◌, append_assoc}
 use Prim.Native.Nat.{ℕ, suc, ◌+◌, ◌-◌, ◌≤◌, ◌<◌, min}
@@ -8,49 +8,61 @@ use native.Mathlib.Omega.{arith}
 use borrow.Author.Tests.{le-leb, lt-leb}
 use lib.ListN.{length, take, drop, length-append, length-reverse, take-append-drop, length-drop}
 use lib.Seq.{take-take, length-take-le, take_at, drop_at, length-slice}
-use Rattle.bytes.specs.Bytes.{rev, slice}
-use Rattle.bytes.proofs.Laws.{rev-rev-append, split}
+use Rattle.std.specs.Prelude.{reverse}
+use lib.Seq.{slice}
+use mathlib.Core.List.{reverse-append, reverse-reverse}
+use Rattle.std.proofs.lemmas.List.{drop-take, drop-drop}
+use borrow.Rule.Slice.PartMut.{put_mid}
 use Rattle.writing.specs.Wrote.{Wrote, Moves, rotated, turned_into_place}
 use Rattle.writing.proofs.WroteLaws.{over}
 
--- what `bytes::reverse` leaves of t
+-- what reversing a part leaves of t
 abbrev reversed : ℕ → ℕ → List ℕ → List ℕ
-reversed from to t = take from t ++ (rev (slice from to t) ++ drop to t)
-
-length_rev : (x : List ℕ) → length (rev x) ≡ length x
-unfolding rev
-length_rev x = length-reverse x
+reversed from to t = take from t ++ (reverse (slice from to t) ++ drop to t)
 
 -- a list in three parts is cut at their borders
 cut : (p q z : List ℕ) (k l : ℕ) → length p ≡ k → length p + length q ≡ l → (take k (p ++ (q ++ z)) ≡ p) × (slice k l (p ++ (q ++ z)) ≡ q) × (drop l (p ++ (q ++ z)) ≡ z)
-unfolding slice
 cut p q z k l e₁ e₂ =
     let w : p ++ (q ++ z) ≡ (p ++ q) ++ z = sym (append_assoc p q z) in
     let n : length (p ++ q) ≡ l = length-append p q ∙ e₂ in
     (take_at p (q ++ z) k e₁, ap (λ (x : List ℕ). drop k (take l x)) w ∙ ap (drop k) (take_at (p ++ q) z l n) ∙ drop_at p q k e₁, ap (drop l) w ∙ drop_at (p ++ q) z l n)
 
-reversed_middle : (p q z : List ℕ) (k l : ℕ) → length p ≡ k → length p + length q ≡ l → reversed k l (p ++ (q ++ z)) ≡ p ++ (rev q ++ z)
-reversed_middle p q z k l e₁ e₂ = let m = cut p q z k l e₁ e₂ in λ i. m.0 i ++ (rev (m.1 i) ++ m.2 i)
+reversed_middle : (p q z : List ℕ) (k l : ℕ) → length p ≡ k → length p + length q ≡ l → reversed k l (p ++ (q ++ z)) ≡ p ++ (reverse q ++ z)
+reversed_middle p q z k l e₁ e₂ = let m = cut p q z k l e₁ e₂ in λ i. m.0 i ++ (reverse (m.1 i) ++ m.2 i)
+
+-- both, each turned round, and then all of it
+reverse_twice : (x y : List ℕ) → reverse (reverse x ++ reverse y) ≡ y ++ x
+reverse_twice x y = reverse-append (reverse x) (reverse y) ∙ ap (λ (w : List ℕ). w ++ reverse (reverse x)) (reverse-reverse y) ∙ ap (λ (w : List ℕ). y ++ w) (reverse-reverse x)
+
+-- a list is what comes before a border, between two, and after
+split : (t : List ℕ) (b e : ℕ) → b ≤ e → t ≡ (take b t ++ slice b e t) ++ drop e t
+split t b e h = sym (take-append-drop e t) ∙ ap (λ (w : List ℕ). w ++ drop e t) (sym (take-append-drop b (take e t)) ∙ ap (λ (w : List ℕ). w ++ slice b e t) (take-take b e t h))
+
+-- what the library's `reverse` leaves where a part is lent to it
+pub part_reversed : (t r : List ℕ) (a b : ℕ) → a ≤ b → r ≡ reverse (take (b - a) (drop a t)) → put_mid a (b - a) t r ≡ reversed a b t
+part_reversed t r a b h q =
+    let e : a + (b - a) ≡ b = omega arith in
+    let front : take (b - a) (drop a t) ≡ slice a b t = sym (drop-take a (b - a) t) ∙ ap (λ (n : ℕ). slice a n t) e in
+    let back : drop (b - a) (drop a t) ≡ drop b t = drop-drop (b - a) a t ∙ ap (λ (n : ℕ). drop n t) e in
+    rw (q, front, back) refl
 
 -- the three reversals, of a list given as its four parts
 three_reversals : (p x y z : List ℕ) (a b e : ℕ) → length p ≡ a → length p + length x ≡ b → length p + length x + length y ≡ e → reversed a e (reversed b e (reversed a b (p ++ (x ++ (y ++ z))))) ≡ p ++ (y ++ (x ++ z))
 three_reversals p x y z a b e ha hb he =
-    ap (λ (w : List ℕ). reversed a e (reversed b e w)) (reversed_middle p x (y ++ z) a b ha hb ∙ sym (append_assoc p (rev x) (y ++ z)))
-    ∙ ap (reversed a e) (reversed_middle (p ++ rev x) y z b e (simp (length-append, length_rev) (omega arith)) (simp (length-append, length_rev) (omega arith)) ∙ append_assoc p (rev x) (rev y ++ z) ∙ ap (λ (w : List ℕ). p ++ w) (sym (append_assoc (rev x) (rev y) z)))
-    ∙ reversed_middle p (rev x ++ rev y) z a e ha (simp (length-append, length_rev) (omega arith))
-    ∙ ap (λ (w : List ℕ). p ++ (w ++ z)) (rev-rev-append x y)
+    ap (λ (w : List ℕ). reversed a e (reversed b e w)) (reversed_middle p x (y ++ z) a b ha hb ∙ sym (append_assoc p (reverse x) (y ++ z)))
+    ∙ ap (reversed a e) (reversed_middle (p ++ reverse x) y z b e (simp (length-append, length-reverse) (omega arith)) (simp (length-append, length-reverse) (omega arith)) ∙ append_assoc p (reverse x) (reverse y ++ z) ∙ ap (λ (w : List ℕ). p ++ w) (sym (append_assoc (reverse x) (reverse y) z)))
+    ∙ reversed_middle p (reverse x ++ reverse y) z a e ha (simp (length-append, length-reverse) (omega arith))
+    ∙ ap (λ (w : List ℕ). p ++ (w ++ z)) (reverse_twice x y)
     ∙ ap (λ (w : List ℕ). p ++ w) (append_assoc y x z)
 
 -- a list is its four parts
 four_parts : (t : List ℕ) (a b e : ℕ) → a ≤ b → b ≤ e → t ≡ take a t ++ (slice a b t ++ (slice b e t ++ drop e t))
-unfolding slice
 four_parts t a b e h₁ h₂ =
-    split t b e h₂
+    split t b e h₂ ∙ append_assoc (take b t) (slice b e t) (drop e t)
     ∙ ap (λ (w : List ℕ). w ++ (slice b e t ++ drop e t)) (sym (take-append-drop a (take b t)) ∙ ap (λ (w : List ℕ). w ++ slice a b t) (take-take a b t h₁))
     ∙ append_assoc (take a t) (slice a b t) (slice b e t ++ drop e t)
 
 length_part : (t : List ℕ) (a b : ℕ) → b ≤ length t → length (slice a b t) ≡ b - a
-unfolding slice
 length_part t a b h = length-slice a b t h
 
 pub rotated_by_reversals : (t : List ℕ) {t1 t2 t3 : List ℕ} (a b e : ℕ) → (a ≤ b) × (b ≤ e) × (e ≤ length t) → t1 ≡ reversed a b t → t2 ≡ reversed b e t1 → t3 ≡ reversed a e t2 → t3 ≡ rotated a b e t

@@ -18,7 +18,7 @@ bounds-text-at c = omega (arith, c.loop-i.invariant.writes.wrote.long)
 
 pub loop-i-preserved : goal.loop-i-preserved
 loop-i-preserved c = put_again (λ (x : ℕ). x ∷ []) (λ xs x. refl) c.loop-i.invariant c.loop-i-test.true
-    (one_to c.loop-i.text (c.args.at + c.loop-i.i) _ _ (slice_write_text c) (omega arith))
+    (one_to c.loop-i.text (c.args.at + c.loop-i.i) _ _ (omega (arith, c.loop-i.invariant.writes.wrote.long)) (omega arith))
 
 pub returns : goal.returns
 returns c = put_end c.loop-i.invariant c.loop-i-test.false
