@@ -1,8 +1,8 @@
 /* The smallest lawful tables, written by hand: a schema with an empty type Query, an operation that selects nothing, and the
  * root's answer. Prints 0; then the kind of Query becomes one that is none, and it prints 1.
  *
- *     rt staticlib ladlehedge
- *     cc -Wall -Wextra -Iinclude examples/check.c target/staticlib/libladlehedge.a -o target/check
+ *     (cd crates/ladlehedge && rt lib)
+ *     cc -Wall -Wextra -Iinclude examples/check.c crates/ladlehedge/out/libladlehedge.a -o target/check
  *     target/check
  */
 #include <inttypes.h>

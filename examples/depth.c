@@ -2,8 +2,8 @@
  * and the place. Then the inner field gets a set with a third such field, which is too deep, and it prints `8 0 302`: the place
  * is that field's.
  *
- *     rt staticlib ladlehedge
- *     cc -Wall -Wextra -Iinclude examples/depth.c target/staticlib/libladlehedge.a -o target/depth
+ *     (cd crates/ladlehedge && rt lib)
+ *     cc -Wall -Wextra -Iinclude examples/depth.c crates/ladlehedge/out/libladlehedge.a -o target/depth
  *     target/depth
  */
 #include <inttypes.h>

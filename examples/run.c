@@ -7,8 +7,8 @@
  *
  * then the same with g taken first, which changes the order of the errors alone, and then `6`: a text buffer of 8 bytes is too short.
  *
- *     rt staticlib ladlehedge
- *     cc -Wall -Wextra -Iinclude examples/run.c target/staticlib/libladlehedge.a -o target/run
+ *     (cd crates/ladlehedge && rt lib)
+ *     cc -Wall -Wextra -Iinclude examples/run.c crates/ladlehedge/out/libladlehedge.a -o target/run
  *     target/run
  */
 #include <inttypes.h>

@@ -1,4 +1,4 @@
-/* Ladlehedge from C: link libladlehedge.a, which `rt staticlib ladlehedge` writes (docs/LINKING.md).
+/* Ladlehedge from C: link libladlehedge.a, which `rt lib` in crates/ladlehedge writes (docs/LINKING.md).
  *
  * A caller fills a struct ladlehedge_tables with what it lends and passes it to an entry's inline function:
  *

@@ -1,11 +1,11 @@
 //! Links `libladlehedge.a`, which Rattle builds: from the folder named by `LADLEHEDGE_LIB`, or from
-//! where `rt staticlib` puts it.
+//! where `rt lib` puts it.
 
 use std::path::{Path, PathBuf};
 use std::{env, process};
 
-/// Where `rt staticlib ladlehedge` puts the archive, seen from this package.
-const DEFAULT_FOLDER: &str = "../../target/staticlib";
+/// Where `rt lib` in `crates/ladlehedge` puts the archive, seen from this package.
+const DEFAULT_FOLDER: &str = "../../crates/ladlehedge/out";
 
 fn main() {
     println!("cargo::rerun-if-env-changed=LADLEHEDGE_LIB");
@@ -14,7 +14,7 @@ fn main() {
     println!("cargo::rerun-if-changed={}", archive.display());
     if !archive.is_file() {
         eprintln!("There is no {}.", archive.display());
-        eprintln!("Make it with `rt staticlib ladlehedge` in the repository's root,");
+        eprintln!("Make it with `rt lib` in the repository's folder crates/ladlehedge,");
         eprintln!("or name the folder that has it in LADLEHEDGE_LIB.");
         process::exit(1);
     }

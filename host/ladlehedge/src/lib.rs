@@ -1,4 +1,4 @@
-//! Ladlehedge's entries as safe functions, over the static library that `rt staticlib ladlehedge`
+//! Ladlehedge's entries as safe functions, over the static library that `rt lib` in `crates/ladlehedge`
 //! makes.
 //!
 //! * [`Tables`]: what every entry is lent, as slices. docs/TABLES.md says what the words mean.
