@@ -1,6 +1,5 @@
 -- The range of all rows. Assumes nothing.
 use Rattle.rules.specs.Rows.{distinct}
-use borrow.Author.Rules.{rules}
 use Rattle.distinct.proofs.columns.is_distinct_column.Goals as goal
 
 pub returns : goal.returns

@@ -4,7 +4,6 @@ use Prim.Native.Nat.{◌+◌}
 use Rattle.rules.specs.Rows.{is_new, distinct}
 use Rattle.distinct.specs.Differ.{is_other, differ}
 use Rattle.distinct.proofs.Differ.{since_range}
-use borrow.Author.Rules.{rules}
 use Rattle.distinct.proofs.columns.is_distinct_since.Goals as goal
 
 pub overflow_cast-result : goal.overflow_cast-result

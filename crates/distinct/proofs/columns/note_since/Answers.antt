@@ -1,12 +1,9 @@
 -- The next note follows from the one before and from the last row that has the word. Assumes nothing.
-use mathlib.Core.Path.{◌≡◌, refl, sym, ◌∙◌}
-use Prim.Native.Nat.{◌+◌, ◌-◌, ◌≤◌, ◌<◌}
+use mathlib.Core.Path.{refl, sym, ◌∙◌}
+use Prim.Native.Nat.{◌+◌, ◌<◌}
 use native.Mathlib.Omega.{arith}
-use lib.ListN.{length, get_or, length-set}
+use lib.ListN.{length, length-set}
 use lib.Seq.{get_or-set_same}
-use Rattle.rows.specs.Rows.{cell}
-use Rattle.rules.specs.Rows.{other}
-use Rattle.distinct.specs.Differ.{Lasts, Since}
 use Rattle.distinct.proofs.Differ.{after_from, since_none, since_low, since-one}
 use Rattle.distinct.proofs.Chains.{lasts_none, lasts_one, lasts_found}
 use borrow.Author.Rules.{rules}

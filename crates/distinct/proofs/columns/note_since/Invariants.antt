@@ -1,15 +1,10 @@
 -- The next note follows from the one before and from the last row that has the word. Assumes nothing.
-use mathlib.Core.Path.{◌≡◌, refl, sym, ◌∙◌}
-use Prim.Native.Nat.{◌+◌, ◌-◌, ◌≤◌, ◌<◌}
-use native.Mathlib.Omega.{arith}
-use lib.ListN.{length, get_or, length-set}
-use lib.Seq.{get_or-set_same}
+use mathlib.Core.Path.{◌≡◌}
+use Prim.Native.Nat.{◌-◌, ◌≤◌}
+use lib.ListN.{length, get_or}
 use Rattle.rows.specs.Rows.{cell}
 use Rattle.rules.specs.Rows.{other}
 use Rattle.distinct.specs.Differ.{Lasts, Since}
-use Rattle.distinct.proofs.Differ.{after_from, since_none, since_low, since-one}
-use Rattle.distinct.proofs.Chains.{lasts_none, lasts_one, lasts_found}
-use borrow.Author.Rules.{rules}
 use Rattle.distinct.proofs.columns.note_since.Given as goal
 
 abbrev pub invariant-loop-row : goal.invariant-loop-row

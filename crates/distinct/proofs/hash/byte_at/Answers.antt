@@ -1,7 +1,6 @@
 -- A byte past the end is 0. Assumes nothing.
 use mathlib.Core.Path.{sym}
 use lib.ListN.{get_or-eq_default}
-use borrow.Author.Rules.{rules}
 use Rattle.distinct.proofs.hash.byte_at.Goals as goal
 
 pub returns-else-i-bytes : goal.returns-else-i-bytes

@@ -1,11 +1,7 @@
 -- The bytes passed are in the hash, eight by eight; the last eight follow. Assumes nothing.
-use mathlib.Core.Path.{◌≡◌, refl}
-use Prim.Native.Nat.{◌+◌, ◌*◌, ◌-◌, ◌/◌, ◌≤◌, ◌<◌, ◌^◌}
-use native.Mathlib.Omega.{arith}
-use lib.ListN.{length}
-use Rattle.distinct.specs.Hash.{hash_steps, hash_of}
-use Rattle.distinct.proofs.HashLaws.{hash_more}
-use borrow.Author.Rules.{rules}
+use mathlib.Core.Path.{◌≡◌}
+use Prim.Native.Nat.{◌*◌, ◌-◌, ◌/◌, ◌≤◌, ◌<◌, ◌^◌}
+use Rattle.distinct.specs.Hash.{hash_steps}
 use Rattle.distinct.proofs.hash.hash_of.Given as goal
 
 abbrev pub invariant-loop-i : goal.invariant-loop-i

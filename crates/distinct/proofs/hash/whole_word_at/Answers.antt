@@ -1,6 +1,5 @@
 -- Each byte is there. Assumes nothing.
 use Rattle.distinct.specs.Hash.{word_at}
-use borrow.Author.Rules.{rules}
 use Rattle.distinct.proofs.hash.whole_word_at.Goals as goal
 
 pub returns : goal.returns

@@ -1,7 +1,6 @@
 -- Each byte is what its callee ensures. Assumes nothing.
 use mathlib.Core.Path.{◌∙◌}
 use Rattle.distinct.specs.Hash.{word_at}
-use borrow.Author.Rules.{rules}
 use Rattle.distinct.proofs.hash.word_at.Goals as goal
 
 pub returns : goal.returns

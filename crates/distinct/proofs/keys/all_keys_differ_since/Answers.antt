@@ -1,9 +1,4 @@
 -- The keys of the nodes passed differ; a node whose keys do not ends the search. Assumes nothing.
-use mathlib.Core.Path.{◌≡◌}
-use mathlib.Core.Bool.{true}
-use Prim.Native.Nat.{◌-◌, ◌≤◌}
-use Rattle.rows.specs.Rows.{all}
-use Rattle.rules.specs.Json.{node_keys_differ}
 use Rattle.rows.proofs.Every.{all_none, all_more, all_broken, all_ended}
 use borrow.Author.Rules.{rules}
 use Rattle.distinct.proofs.keys.all_keys_differ_since.Goals as goal

@@ -4,8 +4,6 @@ use mathlib.Core.Bool.{true}
 use Prim.Native.Nat.{◌-◌, ◌≤◌}
 use Rattle.rows.specs.Rows.{all}
 use Rattle.rules.specs.Json.{node_keys_differ}
-use Rattle.rows.proofs.Every.{all_none, all_more, all_broken, all_ended}
-use borrow.Author.Rules.{rules}
 use Rattle.distinct.proofs.keys.all_keys_differ_since.Given as goal
 
 abbrev pub invariant-loop-row : goal.invariant-loop-row

@@ -1,7 +1,6 @@
 -- Plain nodes have no doubles; otherwise the notes tell. Assumes nothing.
 use mathlib.Core.Path.{sym}
 use Rattle.distinct.proofs.Plain.{plain_differ}
-use borrow.Author.Rules.{rules}
 use Rattle.distinct.proofs.keys.all_node_keys_differ.Goals as goal
 
 pub returns-then-end-eq0 : goal.returns-then-end-eq0

@@ -1,11 +1,8 @@
 -- As long as the end is 0, the nodes passed are plain. Assumes nothing.
 use mathlib.Core.Path.{◌≡◌, refl, sym}
 use mathlib.Core.Bool.{true}
-use Prim.Native.Nat.{◌-◌, ◌≤◌}
 use native.Mathlib.Omega.{arith}
 use borrow.Author.Tests.{lt-ltb}
-use Rattle.rows.specs.Rows.{all}
-use Rattle.distinct.specs.Plain.{is_plain}
 use Rattle.rows.proofs.Every.{all_none, all_more}
 use borrow.Author.Rules.{rules}
 use Rattle.distinct.proofs.keys.end_of_children.Goals as goal

@@ -4,7 +4,6 @@ use Prim.Native.Nat.{◌+◌}
 use Rattle.rules.specs.Json.{key_new, keys_distinct}
 use Rattle.distinct.specs.Differ.{is_other, differ}
 use Rattle.distinct.proofs.Differ.{since_range}
-use borrow.Author.Rules.{rules}
 use Rattle.distinct.proofs.keys.keys_differ_since.Goals as goal
 
 pub overflow_cast-result : goal.overflow_cast-result

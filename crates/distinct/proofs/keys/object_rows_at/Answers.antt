@@ -1,7 +1,6 @@
 -- The kind tells whether the node is an object. Assumes nothing.
 use Rattle.rows.specs.Json.{node_at}
 use Rattle.distinct.proofs.Plain.{no_object}
-use borrow.Author.Rules.{rules}
 use Rattle.distinct.proofs.keys.object_rows_at.Goals as goal
 
 pub returns-then-cell-ne8 : goal.returns-then-cell-ne8

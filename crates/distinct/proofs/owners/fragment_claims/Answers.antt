@@ -1,7 +1,6 @@
 -- The mark of the set says whether it is free, and is set then. Assumes nothing.
 use native.Mathlib.Omega.{arith}
 use Rattle.distinct.proofs.Marked.{fragment-past, fragment-marked, fragment-told}
-use borrow.Author.Rules.{rules}
 use Rattle.distinct.proofs.owners.fragment_claims.Goals as goal
 
 pub returns-then-set-ge4096 : goal.returns-then-set-ge4096
@@ -14,8 +13,7 @@ pub bounds-marks-at-2 : goal.bounds-marks-at-2
 bounds-marks-at-2 c = omega (arith, c.requires.sized)
 
 pub returns : goal.returns
-returns c = rw c.fragment_at-fragment.ensures (
-  fragment-told _ _ _ _ c.requires (rw c.fragment_at-fragment.ensures at c.if-set-ge4096.false),
-  fragment-marked _ _ _ _ c.requires
-      (rw c.fragment_at-fragment.ensures at c.if-set-ge4096.false),
-)
+returns c = record {
+  value = rw c.fragment_at-fragment.ensures (fragment-told _ _ _ _ c.requires (rw c.fragment_at-fragment.ensures at c.if-set-ge4096.false));
+  marked = rw c.fragment_at-fragment.ensures (fragment-marked _ _ _ _ c.requires (rw c.fragment_at-fragment.ensures at c.if-set-ge4096.false));
+}

@@ -1,11 +1,6 @@
 -- Each row passed owns its set alone, and the marks follow; one that does not ends the search. Assumes nothing.
-use mathlib.Core.Path.{◌≡◌, sym, ◌∙◌}
-use mathlib.Core.Bool.{true}
-use Prim.Native.Nat.{◌-◌, ◌≤◌}
-use Rattle.rows.specs.Rows.{all}
-use Rattle.rules.specs.Document.{fragment_owns_alone}
+use mathlib.Core.Path.{sym, ◌∙◌}
 use Rattle.rows.proofs.Every.{all_none, all_more, all_broken, all_ended}
-use Rattle.distinct.specs.Marks.{Marked, free_of_fragments}
 use borrow.Author.Rules.{rules}
 use Rattle.distinct.proofs.owners.fragments_claim.Goals as goal
 

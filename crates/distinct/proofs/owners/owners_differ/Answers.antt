@@ -2,7 +2,6 @@
 use mathlib.Core.Path.{refl}
 use Rattle.rows.proofs.Every.{falsified, verified}
 use Rattle.distinct.proofs.Marked.{selections_first, fragments_first}
-use borrow.Author.Rules.{rules}
 use Rattle.distinct.proofs.owners.owners_differ.Goals as goal
 
 pub selections_claim-requires : goal.selections_claim-requires

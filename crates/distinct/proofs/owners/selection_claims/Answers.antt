@@ -2,7 +2,6 @@
 use mathlib.Core.Path.{sym, ◌∙◌}
 use native.Mathlib.Omega.{arith}
 use Rattle.distinct.proofs.Marked.{selection_absent, selection-past, selection-marked, selection-told}
-use borrow.Author.Rules.{rules}
 use Rattle.distinct.proofs.owners.selection_claims.Goals as goal
 
 pub returns-in_default : goal.returns-in_default

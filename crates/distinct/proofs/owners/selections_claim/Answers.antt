@@ -1,12 +1,8 @@
 -- Each row passed owns its set alone, and the marks follow; one that does not ends the search. Assumes nothing.
 use mathlib.Core.Path.{◌≡◌, sym, ◌∙◌}
-use mathlib.Core.Bool.{true, false≢true}
-use Prim.Native.Nat.{◌-◌, ◌≤◌}
+use mathlib.Core.Bool.{false≢true}
 use native.Mathlib.Omega.{arith}
-use Rattle.rows.specs.Rows.{all}
-use Rattle.rules.specs.Document.{selection_owns_alone}
 use Rattle.rows.proofs.Every.{all_none, all_more, all_broken, all_ended}
-use Rattle.distinct.specs.Marks.{Marked, free_of_selections}
 use borrow.Author.Rules.{rules}
 use Rattle.distinct.proofs.owners.selections_claim.Goals as goal
 
@@ -31,4 +27,7 @@ shape_of-marks c = c.loop-row.invariant.2.sized ∙ sym c.requires.sized
 
 pub returns : goal.returns
 returns c = let e : c.loop-row.row ≡ c.row_count-rows.result = omega arith in
-    rw (← c.row_count-rows.ensures) (all_ended _ c.loop-row.row _ c.loop-row.invariant.1 c.loop-row.invariant.0 c.loop-row-test.false, λ t. rw e at c.loop-row.invariant.2)
+    record {
+      value = rw (← c.row_count-rows.ensures) (all_ended _ c.loop-row.row _ c.loop-row.invariant.1 c.loop-row.invariant.0 c.loop-row-test.false);
+      marked = λ t. rw (← c.row_count-rows.ensures) (rw e at c.loop-row.invariant.2);
+    }

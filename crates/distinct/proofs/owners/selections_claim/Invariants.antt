@@ -1,13 +1,10 @@
 -- Each row passed owns its set alone, and the marks follow; one that does not ends the search. Assumes nothing.
-use mathlib.Core.Path.{◌≡◌, sym, ◌∙◌}
-use mathlib.Core.Bool.{true, false≢true}
+use mathlib.Core.Path.{◌≡◌}
+use mathlib.Core.Bool.{true}
 use Prim.Native.Nat.{◌-◌, ◌≤◌}
-use native.Mathlib.Omega.{arith}
 use Rattle.rows.specs.Rows.{all}
 use Rattle.rules.specs.Document.{selection_owns_alone}
-use Rattle.rows.proofs.Every.{all_none, all_more, all_broken, all_ended}
 use Rattle.distinct.specs.Marks.{Marked, free_of_selections}
-use borrow.Author.Rules.{rules}
 use Rattle.distinct.proofs.owners.selections_claim.Given as goal
 
 abbrev pub invariant-loop-row : goal.invariant-loop-row

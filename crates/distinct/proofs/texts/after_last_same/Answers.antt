@@ -1,12 +1,9 @@
 -- What is passed on the way back differs from the row; a row that is the same ends it. Assumes nothing.
 use Prim.Native.Nat.{◌-◌}
 use native.Mathlib.Omega.{arith}
-use Rattle.distinct.specs.Differ.{Cursor}
-use Rattle.distinct.specs.Texts.{other_text, text_chain}
 use Rattle.rows.proofs.Every.{falsified, verified}
 use Rattle.distinct.proofs.Chains.{cursor_step, cursor_found, cursor_end}
 use Rattle.distinct.proofs.HashLaws.{chain_other}
-use borrow.Author.Rules.{rules}
 use Rattle.distinct.proofs.texts.after_last_same.Goals as goal
 
 pub returns-then-not-is_other : goal.returns-then-not-is_other

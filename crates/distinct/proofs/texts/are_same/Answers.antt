@@ -1,7 +1,6 @@
 -- A text is the same as itself. Assumes nothing.
 use mathlib.Core.Path.{sym}
 use Rattle.distinct.proofs.HashLaws.{same_self}
-use borrow.Author.Rules.{rules}
 use Rattle.distinct.proofs.texts.are_same.Goals as goal
 
 pub returns-then-one-two-2 : goal.returns-then-one-two-2

@@ -1,7 +1,6 @@
 -- Texts with different hashes differ. Assumes nothing.
 use native.Mathlib.Omega.{arith}
 use Rattle.distinct.proofs.HashLaws.{hashed_other}
-use borrow.Author.Rules.{rules}
 use Rattle.distinct.proofs.texts.is_other.Goals as goal
 
 pub returns-then-hashes-one : goal.returns-then-hashes-one

@@ -20,19 +20,19 @@ pub bounds-hashes-row : goal.bounds-hashes-row
 bounds-hashes-row c = omega (arith, c.requires.kept.hashes_sized)
 
 pub overflow_cast-head : goal.overflow_cast-head
-overflow_cast-head c = omega (arith, c.slice-known5.given (c.hash_at.result % 2048))
+overflow_cast-head c = omega (arith, c.type_inv.heads (c.hash_at-hash.result % 2048))
 
 pub after_last_same-after-requires : goal.after_last_same-after-requires
-after_last_same-after-requires c = record { width_bound = (search rules, search rules, search rules, simp length-set (omega (arith, c.before.before.requires.1.hashes_sized)), search rules, since_low _ _ _ c.before.before.requires.1.told); hashed = kept_hashed _ _ _ _ _ _ _ _ _ c.before.before.requires.1 _ c.hash_at.ensures (omega arith); links = c.before.before.requires.1.linked; cursor = kept_cursor _ _ _ _ _ _ _ _ _ c.before.before.requires.1 _ c.hash_at.ensures }
+after_last_same-after-requires c = record { width_bound = (search rules, search rules, search rules, simp length-set (omega (arith, c.requires.kept.hashes_sized)), search rules, since_low _ _ _ c.requires.kept.told); hashed = kept_hashed _ _ _ _ _ _ _ _ _ c.requires.kept _ c.hash_at-hash.ensures (omega arith); links = c.requires.kept.linked; cursor = kept_cursor _ _ _ _ _ _ _ _ _ c.requires.kept _ c.hash_at-hash.ensures }
 
 pub bounds-heads-chain-2 : goal.bounds-heads-chain-2
-bounds-heads-chain-2 c = omega (arith, c.before.before.requires.1.headed.sized)
+bounds-heads-chain-2 c = omega (arith, c.requires.kept.headed.sized)
 
 pub overflow_cast-since : goal.overflow_cast-since
 overflow_cast-since c = omega (arith, c.after_last_same-after.ensures.high)
 
 pub bounds-since-row-2 : goal.bounds-since-row-2
-bounds-since-row-2 c = omega (arith, c.before.before.requires.1.since_sized)
+bounds-since-row-2 c = omega (arith, c.requires.kept.since_sized)
 
 pub returns : goal.returns
-returns c = kept_one _ _ _ _ _ _ _ _ _ c.before.before.requires.1 _ c.hash_at.ensures c.after_last_same-after.result (omega arith) c.after_last_same-after.ensures
+returns c = kept_one _ _ _ _ _ _ _ _ _ c.requires.kept _ c.hash_at-hash.ensures c.after_last_same-after.result (omega arith) c.after_last_same-after.ensures

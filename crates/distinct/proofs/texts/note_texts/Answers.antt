@@ -1,9 +1,6 @@
 -- What is kept follows the rows. Assumes nothing.
-use mathlib.Core.Path.{◌≡◌, refl, ◌∙◌}
-use Prim.Native.Nat.{◌-◌, ◌≤◌}
+use mathlib.Core.Path.{◌≡◌, refl}
 use native.Mathlib.Omega.{arith}
-use lib.ListN.{length}
-use Rattle.distinct.specs.Texts.{Kept}
 use borrow.Author.Rules.{rules}
 use Rattle.distinct.proofs.texts.note_texts.Goals as goal
 
@@ -16,10 +13,10 @@ note_text-requires c = record { width_bound = (search rules, search rules, searc
 pub loop-row-preserved : goal.loop-row-preserved
 loop-row-preserved c = (
   search rules,
-  c.note_text.auto.1.1.1.1.0 ∙ c.loop-row.invariant.1,
-  c.note_text.auto.1.1.1.1.1.0 ∙ c.loop-row.invariant.2,
-  c.note_text.auto.1.1.1.1.1.1.0 ∙ c.loop-row.invariant.3,
-  c.note_text.auto.1.1.1.1.1.1.1.0 ∙ c.loop-row.invariant.4,
+  cc,
+  cc,
+  cc,
+  cc,
   c.note_text.ensures,
 )
 

@@ -1,10 +1,8 @@
 -- What is kept follows the rows. Assumes nothing.
-use mathlib.Core.Path.{◌≡◌, refl, ◌∙◌}
+use mathlib.Core.Path.{◌≡◌}
 use Prim.Native.Nat.{◌-◌, ◌≤◌}
-use native.Mathlib.Omega.{arith}
 use lib.ListN.{length}
 use Rattle.distinct.specs.Texts.{Kept}
-use borrow.Author.Rules.{rules}
 use Rattle.distinct.proofs.texts.note_texts.Given as goal
 
 abbrev pub invariant-loop-row : goal.invariant-loop-row

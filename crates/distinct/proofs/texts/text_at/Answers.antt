@@ -1,6 +1,5 @@
 -- Each part is what its callee ensures. Assumes nothing.
 use Rattle.distinct.specs.Texts.{text_at}
-use borrow.Author.Rules.{rules}
 use Rattle.distinct.proofs.texts.text_at.Goals as goal
 
 pub returns : goal.returns

@@ -5,7 +5,7 @@ use borrow.Author.Rules.{rules}
 use Rattle.tables.proofs.defaults.mark_row.Goals as goal
 
 pub run_of-requires : goal.run_of-requires
-run_of-requires c = omega (arith, c.before.requires.1.low (c.before.args.row + 1) (omega arith) (omega arith))
+run_of-requires c = omega (arith, c.requires.marked.low (c.args.row + 1) (omega arith) (omega arith))
 
 pub returns : goal.returns
 returns c = rw (c.run_of.ensures, c.row_is_closed.ensures)
