@@ -144,7 +144,7 @@ module _ {G B : Type 0} where
           each_more gs vs ws u (Subset-trans (subset-append_right w ws) s) (took_each t),
         )
 
-    broke_post : {gs : List G} {u : Log} → Broke run u gs → F u
+    broke_post : {u : Log} {gs : List G} → Broke run u gs → F u
     broke_post {u} (this {g = g} {w = w} {c = c} e s) = mf w u s (post_failed (subst (Post F (R g)) e ((h g).at c)))
     broke_post (later b) = broke_post b
 

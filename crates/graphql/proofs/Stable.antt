@@ -165,6 +165,7 @@ module _ {G B : Type 0} (run : G → M B) where
   broke_others : (i : ℕ) (g : G) (gs : List G) {u : Log} → Broke u (others i g gs) → Broke u (g ∷ gs)
   unfolding others
   broke_others zero g gs b = later b
+  broke_others (suc i) g [] {u = u} b = elim b [ ]
   broke_others (suc i) g (h ∷ hs) (this e s) = this e s
   broke_others (suc i) g (h ∷ hs) (later b) = later (broke_others i h hs b)
 
@@ -233,7 +234,7 @@ module _ {G B : Type 0} {run : G → M B} (h : (g : G) → Stable (run g)) where
         λ k. Perm.trans p (Perm.trans (logs_append w w' ws ws' a.1 r.1 (none_perm k p)) (Perm.symm p')),
       )
 
-  clash : {gs : List G} {vs : List B} {u w : Log} → Broke run w gs → Took run gs vs u → ⊥
+  clash : {w : Log} {gs : List G} {vs : List B} {u : Log} → Broke run w gs → Took run gs vs u → ⊥
   clash (this {g = g} {c = c} e s) (one {c = c'} e' t p) = failed_done (subst₂ Agree e e' ((h g).at c c'))
   clash (later b) (one e' t p) = clash b t
 
