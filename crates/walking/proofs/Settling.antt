@@ -5,7 +5,7 @@ use mathlib.Core.Bool.{Bool, true, false}
 use mathlib.Core.List.{List, [], ◌∷◌}
 use Prim.Native.Nat.{ℕ}
 use native.Mathlib.Omega.{arith}
-use borrow.Enum.Refused.{Among}
+use borrow.Enum.Refused.{Among, opened}
 use denote.Enum.Declared.{tag_of}
 use Rattle.writing.specs.Wrote.{Wrote, Writes}
 use Rattle.writing.proofs.WroteLaws.{back, «then»}
@@ -36,7 +36,7 @@ settled_placed false (failed past_list w c) e = refl
 settled_placed false (done v w c) e = refl
 
 not_here : {f : Failure} → Among (1 ∷ 2 ∷ []) (tag_of failures f) → f ≡ Here → ⊥
-not_here k e = ⊎_elim (λ h. omega arith) (λ h. omega arith) (rw e at k)
+not_here k e = ⊎_elim (λ h. omega arith) (λ h. omega arith) (opened (rw e at k))
 
 settled_further : (b : Bool) (x : Res Val) {f : Failure} → Fails f ≡ answer_of as_value x → Among (1 ∷ 2 ∷ []) (tag_of failures f) → settled b x ≡ x
 unfolding caught
@@ -79,7 +79,7 @@ past_placed d e = same_what d (rw e)
 
 other : (f : Failure) → Among (0 ∷ 2 ∷ []) (tag_of failures f) → f ≡ lower f
 other Here k = refl
-other PastList k = absurd (⊎_elim (λ h. omega arith) (λ h. omega arith) k)
+other PastList k = absurd (⊎_elim (λ h. omega arith) (λ h. omega arith) (opened k))
 other (Stop code) k = refl
 
 pub past_other : (d : Done) {f : Failure} → d.what ≡ Fails f → Among (0 ∷ 2 ∷ []) (tag_of failures f) → d ≡ passed_list d
@@ -116,7 +116,7 @@ module _ {start : ℕ} {d : Done} where
       go s (done absent w c) p g a = absurd (kept-not (cc))
         where
           kept-not : k ≡ kind.LeftOut → ⊥
-          kept-not z = ⊎_elim (λ h. omega arith) (λ u. ⊎_elim (λ h. omega arith) (λ v. ⊎_elim (λ h. omega arith) (λ h. omega arith) v) u) (rw z at o)
+          kept-not z = ⊎_elim (λ h. omega arith) (λ u. ⊎_elim (λ h. omega arith) (λ v. ⊎_elim (λ h. omega arith) (λ h. omega arith) v) u) (opened (rw z at o))
       go s (done (val v) w c) p g a = record { what = g.what; wrote = «then» p g.wrote; noted = g.noted; chosen = g.chosen }
 
   pub settle_left_out : {k : Kind} {m : State} → d.what ≡ Placed k → k ≡ kind.LeftOut → m ≡ moved_to d.state start
