@@ -3,13 +3,13 @@ use borrow.Author.Rules.{rules}
 use Rattle.rulebook.proofs.ask.value_holds.Goals as goal
 
 pub node_row-requires : goal.node_row-requires
-node_row-requires c = absurd (false≢true e)
+node_row-requires c = λ e. absurd (false≢true e)
 
 pub node_key_row-requires : goal.node_key_row-requires
-node_key_row-requires c = absurd (false≢true e)
+node_key_row-requires c = λ e. absurd (false≢true e)
 
 pub literal_row-requires : goal.literal_row-requires
-literal_row-requires c = absurd (false≢true e)
+literal_row-requires c = λ e. absurd (false≢true e)
 
 pub returns-in-NodeRow : goal.returns-in-NodeRow
 returns-in-NodeRow c = rw (c.in-NodeRow.is, c.node_row.ensures, c.row_count.ensures)
