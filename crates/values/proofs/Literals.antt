@@ -6,7 +6,7 @@ use mathlib.Core.List.{List, [], ◌∷◌}
 use Prim.Native.Nat.{ℕ, zero, suc, ◌+◌, ◌-◌, ◌≤◌, ◌<◌}
 use native.Mathlib.Omega.{arith}
 use types.Run.{miss}
-use borrow.Enum.Refused.{Among, opened}
+use borrow.Enum.Refused.{Among, opened, shut}
 use denote.Enum.Declared.{tag_of}
 use Rattle.rows.specs.Limits.{most_literals}
 use Rattle.rows.specs.Strings.{text_of}
@@ -96,7 +96,7 @@ module _ (pool names : List ℕ) {text text' : List ℕ} {at end : ℕ} (l : Lit
   unfolding print
   puts_null o w = rw (plain_null pool names l o) w
 
-pub ruleset plain = (puts_false, puts_true, puts_natural, puts_negative, puts_float, puts_string, puts_enum, puts_null)
+pub ruleset plain = (puts_false, puts_true, puts_natural, puts_negative, puts_float, puts_string, puts_enum, puts_null, shut)
 
 -- ---- a literal is plain, a container or a variable
 
@@ -221,4 +221,5 @@ pub ruleset walking = (
   parts_again,
   parts_stopped,
   parts_ended,
+  shut,
 )

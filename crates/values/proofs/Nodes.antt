@@ -5,7 +5,7 @@ use mathlib.Core.List.{List, [], ◌∷◌}
 use Prim.Native.Nat.{ℕ, ◌+◌, ◌*◌}
 use native.Mathlib.Omega.{arith}
 use types.Run.{miss}
-use borrow.Enum.Refused.{Among, opened}
+use borrow.Enum.Refused.{Among, opened, shut}
 use denote.Enum.Declared.{tag_of}
 use Rattle.rows.specs.Strings.{text_of}
 use Rattle.rows.specs.declared.strings.Text.{Text}
@@ -73,7 +73,7 @@ module _ (pool : List ℕ) {text text' : List ℕ} {at end : ℕ} (n : Node) whe
   unfolding print
   puts_null o w = rw (plain_null pool n o) w
 
-pub ruleset plain = (puts_false, puts_true, puts_natural, puts_negative, puts_float, puts_string, puts_null)
+pub ruleset plain = (puts_false, puts_true, puts_natural, puts_negative, puts_float, puts_string, puts_null, shut)
 
 -- ---- containers
 
