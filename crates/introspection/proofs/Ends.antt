@@ -4,7 +4,7 @@ use mathlib.Core.Logic.{⊎_elim, ◌⊎◌}
 use mathlib.Core.List.{List, [], ◌∷◌}
 use Prim.Native.Nat.{ℕ}
 use native.Mathlib.Omega.{arith}
-use borrow.Enum.Refused.{Among}
+use borrow.Enum.Refused.{Among, opened}
 use denote.Enum.Declared.{tag_of}
 use Rattle.graphql.specs.Depth.{Rises, and_then}
 use Rattle.graphql.specs.Depth as defined
@@ -33,7 +33,7 @@ pub stopped : (fragments : List ℕ) {r : Checked} {marks' : List ℕ} (x : defi
 unfolding and_then
 stopped fragments defined.too_many_sets k s e = e
 stopped fragments (defined.too_deep place) k s e = e
-stopped fragments (defined.depth d rises) k s e = absurd (⊎_elim (λ h. omega arith) (λ h. omega arith) (rw e.what at s))
+stopped fragments (defined.depth d rises) k s e = absurd (⊎_elim (λ h. omega arith) (λ h. omega arith) (opened (rw e.what at s)))
 
 -- a check that did: what is remembered then
 pub came : (fragments : List ℕ) {d : ℕ} {marks' : List ℕ} (x : defined.Checked) → Ends fragments x (Depth d) marks'

@@ -46,7 +46,7 @@ pub check_field-overflow_add-depth : goal.check_field-overflow_add-depth
 check_field-overflow_add-depth t c = search fields
 
 pub check_field-returns-then-depth-ge-MAX_LISTS_DEPTH : goal.check_field-returns-then-depth-ge-MAX_LISTS_DEPTH
-check_field-returns-then-depth-ge-MAX_LISTS_DEPTH t c = field_deep _ _ _ _ _ _ _ c.is_list.ensures c.if-not-is_list.false-raw (omega arith)
+check_field-returns-then-depth-ge-MAX_LISTS_DEPTH t c = field_deep _ _ _ _ _ _ _ c.is_list.ensures (rw c.if-not-is_list.false) (omega arith)
 
 pub check_field-check_child_set-requires-2 : goal.check_field-check_child_set-requires-2
 check_field-check_child_set-requires-2 t c = search fields

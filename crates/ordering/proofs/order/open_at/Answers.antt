@@ -1,9 +1,7 @@
 -- What is passed over is passed over by the definition. Assumes nothing.
-use mathlib.Core.Logic.{⊎_elim}
-use borrow.Author.Rules.{rules}
-use Prim.Native.Nat.{◌-◌}
 use native.Mathlib.Omega.{arith}
 use Rattle.ordering.proofs.SpanLaws.{Seeking, seek_begin, seek_found, seek_open, seek_taken, seek_end}
+use Rattle.ordering.proofs.order.open_at.Goals.{then-spans-base-eq0+else-left-eq0, else-spans-base-eq0}
 use Rattle.ordering.proofs.order.open_at.Goals as goal
 
 pub loop-i-init : goal.loop-i-init
@@ -28,10 +26,12 @@ pub loop-i-smaller : goal.loop-i-smaller
 loop-i-smaller c = omega arith
 
 pub loop-i-preserved : goal.loop-i-preserved
-loop-i-preserved c = ⊎_elim
-    (λ w. rw w.2 (seek_open c.loop-i.invariant c.loop-i-test.true w.0.taken w.1.left))
-    (λ w. rw w.1 (seek_taken c.loop-i.invariant c.loop-i-test.true w.0.left))
-    c.if-spans-base-eq0.branch
+loop-i-preserved c =
+    elim c.if-spans-base-eq0.branch [
+      then-spans-base-eq0+else-left-eq0 w ↦
+          rw w.left-is (seek_open c.loop-i.invariant c.loop-i-test.true w.if-spans-base-eq0.true w.if-left-eq0.false)
+    | else-spans-base-eq0 w ↦ rw w.left-is (seek_taken c.loop-i.invariant c.loop-i-test.true w.if-spans-base-eq0.false)
+    ]
 
 pub returns : goal.returns
 returns c = absurd (seek_end c.loop-i.invariant c.loop-i-test.false)
