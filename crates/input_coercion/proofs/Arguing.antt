@@ -2,6 +2,7 @@
 use mathlib.Core.Path.{◌≡◌, refl}
 use mathlib.Core.Bool.{Bool, true, false}
 use mathlib.Core.List.{List, []}
+use borrow.Enum.Refused.{shut}
 use Prim.Native.Nat.{ℕ, ◌+◌, ◌≤◌, ◌<◌}
 use native.Mathlib.Omega.{arith}
 use Rattle.rows.specs.Limits.{most_rows}
@@ -168,4 +169,4 @@ module _ (refs types fields nodes literals variables arguments given : List ℕ)
         → Checks (of_arguments refs types fields nodes literals variables arguments given definitions written) coercion.Value
     arguments_ended l = arguments_made (going_ended _ definitions.first definitions.count g l)
 
-pub ruleset listing = (arguments_begin, going_again, arguments_stopped, arguments_ended)
+pub ruleset listing = (arguments_begin, going_again, arguments_stopped, arguments_ended, shut)

@@ -7,7 +7,7 @@ use mathlib.Core.Option.{Option, none, some}
 use Prim.Native.Nat.{ℕ, ◌<◌}
 use native.Mathlib.Omega.{arith}
 use types.Run.{miss}
-use borrow.Enum.Refused.{Among, opened}
+use borrow.Enum.Refused.{Among, opened, shut}
 use denote.Enum.Declared.{tag_of}
 use Rattle.rows.specs.Json.{node_at, literal_at, variable_at}
 use Rattle.rows.specs.declared.layout.Range.{Range}
@@ -73,7 +73,7 @@ module _ (refs nodes variables : List ℕ) (ty row : ℕ) {v : VariableValue} {n
   unfolding null_against
   no_null_there o = rw (← e, ← f, no_null_lem n o)
 
-pub ruleset against = (a_null_lem, no_null_there)
+pub ruleset against = (a_null_lem, no_null_there, shut)
 
 -- ---- the form of a literal
 
@@ -115,7 +115,7 @@ module _ (literals : List ℕ) (row : ℕ) {l : Literal} (e : l ≡ literal_at l
   pub form_single : Among singles (tag_of literal-type l) → FormAt literals row (form.Shaped shape.Single)
   form_single o = record { is = rw (← e) (single_form l o) }
 
-pub ruleset forms = (form_null, form_variable, form_list, form_object, form_single)
+pub ruleset forms = (form_null, form_variable, form_list, form_object, form_single, shut)
 
 -- ---- the items of a literal at a list type
 

@@ -4,7 +4,8 @@ use mathlib.Core.List.{List, [], ◌∷◌}
 use Prim.Native.Nat.{ℕ, zero, suc, ◌+◌, ◌-◌, ◌≤◌, ◌<◌}
 use native.Mathlib.Omega.{arith}
 use types.Run.{miss}
-use borrow.Enum.Refused.{Among, opened}
+use borrow.Enum.Refused.{Among, shut}
+use borrow.Enum.Refused.{opened as one_of}
 use denote.Enum.Declared.{tag_of}
 use Rattle.rows.specs.Limits.{most_literals}
 use Rattle.rows.specs.Json.{literal_at}
@@ -51,10 +52,10 @@ module _ (literals pool names : List ℕ) (room : ℕ) where
   plain_valued inside (literal.Negative m) o = value_pure _
   plain_valued inside (literal.Float text) o = value_pure _
   plain_valued inside (literal.String text) o = value_pure _
-  plain_valued inside (literal.List rows) o = absurd (miss plains 7 tt (opened o))
-  plain_valued inside (literal.Object rows) o = absurd (miss plains 8 tt (opened o))
+  plain_valued inside (literal.List rows) o = absurd (miss plains 7 tt (one_of o))
+  plain_valued inside (literal.Object rows) o = absurd (miss plains 8 tt (one_of o))
   plain_valued inside (literal.Enum name) o = value_pure _
-  plain_valued inside (literal.Variable name) o = absurd (miss plains 10 tt (opened o))
+  plain_valued inside (literal.Variable name) o = absurd (miss plains 10 tt (one_of o))
   plain_valued inside literal.Unknown o = value_pure _
 
   by_literal : (row : ℕ) → part_by_part pool names literals room row ≡ parts_of pool names literals room (part_inside literals room pool names) (literal_at literals row)
@@ -122,4 +123,4 @@ module _ (literals : List ℕ) (room : ℕ) (rows : Range) where
     pub parts_ended : rows.count ≤ i → Checks (of_parts literals room rows) coercion.Value
     parts_ended l = rw (parts_opened z) (going_ended (of_part literals (room - 1)) rows.first rows.count g l)
 
-pub ruleset parting = (part-list, part-object, part-variable, part-plain, list_within, object_within, parts_full, parts_begin, going_again, parts_stopped, parts_ended)
+pub ruleset parting = (part-list, part-object, part-variable, part-plain, list_within, object_within, parts_full, parts_begin, going_again, parts_stopped, parts_ended, shut)

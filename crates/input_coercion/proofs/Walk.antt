@@ -6,7 +6,7 @@ use mathlib.Core.Option.{Option, none, some}
 use Prim.Native.Nat.{ℕ, zero, suc, ◌+◌, ◌≤◌}
 use native.Mathlib.Omega.{arith}
 use types.Run.{miss}
-use borrow.Enum.Refused.{Among, opened}
+use borrow.Enum.Refused.{Among, opened, shut}
 use denote.Enum.Declared.{tag_of}
 use Rattle.rows.specs.Limits.{most_literals, most_fields}
 use Rattle.rows.specs.Schema.{type_ref_at, type_at}
@@ -202,12 +202,12 @@ pub ruleset valuing = (form_shaped, value-inner-null, value_null, value_variable
 
 pub ruleset shaping = (listable, shape_named, shape_items, shape_unknown)
 
-pub ruleset naming = (named_undefined, named_other, named-object)
+pub ruleset naming = (named_undefined, named_other, named-object, shut)
 
-pub ruleset objecting = (keyed_within, few_fields, few_declared, object_other, object_unknown, object_known)
+pub ruleset objecting = (keyed_within, few_fields, few_declared, object_other, object_unknown, object_known, shut)
 
-pub ruleset itemizing = (items_full, going_begin, going_again, items-stopped, items_ended)
+pub ruleset itemizing = (items_full, going_begin, going_again, items-stopped, items_ended, shut)
 
 pub ruleset fielding = (field_given, field_default_lem, field-missing, field_absent)
 
-pub ruleset opening = (fields_full, fields_begin, going_again, fields-stopped, fields-ended)
+pub ruleset opening = (fields_full, fields_begin, going_again, fields-stopped, fields-ended, shut)

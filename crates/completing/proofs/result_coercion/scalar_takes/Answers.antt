@@ -8,16 +8,16 @@ pub returns-in-1 : goal.returns-in-1
 returns-in-1 c = scalar_int c.in-1.is c.int_takes.ensures
 
 pub returns-in-2 : goal.returns-in-2
-returns-in-2 c = scalar_float c.fits2.ensures c.in-2.is c.is_float.ensures
+returns-in-2 c = scalar_float c.fits.ensures c.in-2.is c.is_float.ensures
 
 pub returns-in-3 : goal.returns-in-3
-returns-in-3 c = scalar_string c.fits3.ensures c.in-3.is c.is_string.ensures
+returns-in-3 c = scalar_string c.fits-in-3.ensures c.in-3.is c.is_string.ensures
 
 pub returns-in-4 : goal.returns-in-4
-returns-in-4 c = scalar_boolean c.fits4.ensures c.in-4.is c.is_boolean.ensures
+returns-in-4 c = scalar_boolean c.fits-in-4.ensures c.in-4.is c.is_boolean.ensures
 
 pub returns-in-5 : goal.returns-in-5
-returns-in-5 c = scalar_id c.fits5.ensures c.in-5.is c.id_takes.ensures
+returns-in-5 c = scalar_id c.fits-in-5.ensures c.in-5.is c.id_takes.ensures
 
 pub returns-in_default : goal.returns-in_default
 returns-in_default c = scalar_other c.in_default.in_default-own.rest.0.0.0.0.1 c.in_default.in_default-own.rest.0.0.0.1 c.in_default.in_default-own.rest.0.0.1 c.in_default.in_default-own.rest.0.1 c.in_default.in_default-own.rest.1 refl
