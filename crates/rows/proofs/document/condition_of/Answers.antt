@@ -1,5 +1,4 @@
-use borrow.Author.Tests.{eq-eqb, ne_eqb}
-use borrow.Author.Rules.{rules}
+use borrow.Author.Tests.{ne_eqb}
 use Rattle.rows.proofs.document.condition_of.Goals as goal
 
 pub returns-then-word-eq0 : goal.returns-then-word-eq0

@@ -1,5 +1,4 @@
 use Rattle.rows.specs.Document.{field_selection}
-use borrow.Author.Rules.{rules}
 use Rattle.rows.proofs.document.field_selection.Goals as goal
 
 pub returns : goal.returns

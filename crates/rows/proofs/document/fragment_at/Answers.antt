@@ -1,5 +1,4 @@
 use Rattle.rows.specs.Document.{fragment_at}
-use borrow.Author.Rules.{rules}
 use Rattle.rows.proofs.document.fragment_at.Goals as goal
 
 pub returns : goal.returns

@@ -1,5 +1,4 @@
 use Rattle.rows.specs.Document.{set_at}
-use borrow.Author.Rules.{rules}
 use Rattle.rows.proofs.document.set_at.Goals as goal
 
 pub returns : goal.returns

@@ -1,5 +1,4 @@
 use Rattle.rows.specs.Document.{spread_selection}
-use borrow.Author.Rules.{rules}
 use Rattle.rows.proofs.document.spread_selection.Goals as goal
 
 pub returns : goal.returns

@@ -1,7 +1,6 @@
 -- The kind says which of the three it is. Assumes nothing.
 use borrow.Author.Tests.{ne_eqb}
 use Rattle.rows.specs.Document.{selection_of}
-use borrow.Author.Rules.{rules}
 use Rattle.rows.proofs.document.what_is_selected.Goals as goal
 
 pub returns-in-0 : goal.returns-in-0

@@ -1,5 +1,4 @@
 use Rattle.rows.specs.Json.{literal_at}
-use borrow.Author.Rules.{rules}
 use Rattle.rows.proofs.json.literal_at.Goals as goal
 
 pub returns : goal.returns

@@ -1,5 +1,4 @@
 use Rattle.rows.specs.Json.{variable_at}
-use borrow.Author.Rules.{rules}
 use Rattle.rows.proofs.json.variable_at.Goals as goal
 
 pub returns : goal.returns

@@ -3,7 +3,6 @@ use mathlib.Core.Path.{refl, sym}
 use lib.ListN.{get_or-eq_default}
 use Rattle.rows.specs.Rows.{cell}
 use Rattle.rows.proofs.Cells.{cell_small}
-use borrow.Author.Rules.{rules}
 use native.Mathlib.Omega.{arith}
 use Rattle.rows.proofs.layout.cell.Goals as goal
 

@@ -1,6 +1,5 @@
 -- The test says which of the two cases `option_of` takes. Assumes nothing.
 use borrow.Author.Tests.{ne_eqb, eq-eqb}
-use borrow.Author.Rules.{rules}
 use Rattle.rows.proofs.layout.optional_row.Goals as goal
 
 pub returns-then-word-eq0 : goal.returns-then-word-eq0

@@ -1,5 +1,4 @@
 use Rattle.rows.specs.Rows.{rows_of}
-use borrow.Author.Rules.{rules}
 use native.Mathlib.Omega.{arith}
 use Rattle.rows.proofs.layout.row_count.Goals as goal
 

@@ -1,5 +1,4 @@
 use Rattle.rows.specs.Names.{name_at}
-use borrow.Author.Rules.{rules}
 use Rattle.rows.proofs.names.name_at.Goals as goal
 
 pub returns : goal.returns

@@ -1,5 +1,4 @@
 -- The bytes of the text that `name_at` reads. Assumes nothing.
-use borrow.Author.Rules.{rules}
 use Rattle.rows.proofs.names.name_text.Goals as goal
 
 pub returns : goal.returns

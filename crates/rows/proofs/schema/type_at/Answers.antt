@@ -1,5 +1,4 @@
 use Rattle.rows.specs.Schema.{type_at}
-use borrow.Author.Rules.{rules}
 use Rattle.rows.proofs.schema.type_at.Goals as goal
 
 pub returns : goal.returns

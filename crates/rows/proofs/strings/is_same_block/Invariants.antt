@@ -3,8 +3,6 @@ use mathlib.Core.Path.{◌≡◌}
 use Prim.Native.Nat.{◌-◌}
 use lib.ListN.{length, take}
 use Rattle.rows.specs.Strings.{same}
-use Rattle.rows.proofs.Same.{agree_none, agree_more, agree_all}
-use borrow.Author.Rules.{rules}
 use Rattle.rows.proofs.strings.is_same_block.Given as goal
 
 abbrev pub invariant-loop-i : goal.invariant-loop-i

@@ -1,9 +1,5 @@
 -- Texts are the same just if what is left of them is, behind parts that are; and where the last bytes are the same too, all are.
 -- Assumes nothing.
-use mathlib.Core.Path.{◌≡◌}
-use Prim.Native.Nat.{◌-◌, ◌<◌}
-use lib.ListN.{length, drop}
-use Rattle.rows.specs.Strings.{same}
 use Rattle.rows.proofs.Same.{parts_alike, ends_alike, block_differs, block_same, block_last}
 use borrow.Author.Rules.{rules}
 use Rattle.rows.proofs.strings.is_same_by.Goals as goal

@@ -4,8 +4,6 @@ use mathlib.Core.Path.{◌≡◌}
 use Prim.Native.Nat.{◌-◌, ◌<◌}
 use lib.ListN.{length, drop}
 use Rattle.rows.specs.Strings.{same}
-use Rattle.rows.proofs.Same.{parts_alike, ends_alike, block_differs, block_same, block_last}
-use borrow.Author.Rules.{rules}
 use Rattle.rows.proofs.strings.is_same_by.Given as goal
 
 abbrev pub invariant-loop-i : goal.invariant-loop-i
