@@ -16,7 +16,7 @@ const MAX_LISTS_DEPTH: u32 = 3;
 // "33 open sets in a depth check" is too far.
 const MAX_OPEN_SETS: u32 = 32;
 
-// The names `fields`, `interfaces`, `possibleTypes` and `input_fields`.
+// The names `fields`, `interfaces`, `possibleTypes` and `inputFields`.
 const FIRST_LIST: u32 = 8;
 
 const LAST_LIST: u32 = 11;

@@ -61,7 +61,7 @@ worked_depths =
     too_deep_at "depth 3" (document (set 0 1 ∷ set 1 1 ∷ set 2 1 ∷ []) (fields_in 1 ∷ interfaces_in 2 ∷ fields' ∷ []) []) (selection 2) ∷
     depth_of "other fields do not raise it" (document (set 0 1 ∷ set 1 1 ∷ set 2 1 ∷ []) (fields_in 1 ∷ ask_in 'f :Any 2 ∷ interfaces' ∷ []) []) 2 ∷
     depth_of "depth 0" (document (set 0 1 ∷ []) (ask 'f :Any ∷ []) []) 0 ∷
-    -- `{possibleTypes {input_fields}}`, the names 10 and 11; `{__type {__schema}}`, the names 7 and 6, which a depth check lets pass
+    -- `{possibleTypes {inputFields}}`, the names 10 and 11; `{__type {__schema}}`, the names 7 and 6, which a depth check lets pass
     depth_of "the names 10 and 11" (document (set 0 1 ∷ set 1 1 ∷ []) (ask_in 10 :Any 1 ∷ ask 11 :Any ∷ []) []) 2 ∷
     depth_of "the names 6 and 7, and no code 2" (document (set 0 1 ∷ set 1 1 ∷ []) (ask_in 7 :Any 1 ∷ ask 'schema :Any ∷ []) []) 0 ∷
     -- F = {fields {interfaces}}: met again at depth 1 it comes to 3, at depth 2 to over 3

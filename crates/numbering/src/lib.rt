@@ -1,5 +1,7 @@
 // The rules of document 01 by number, so that a program can go through them all. They stand apart from the rules one at a time, `rulebook`:
 // these are lent no table and are proved in a moment, and so is an edit of them.
+#![tactic(auto)]
+
 ghost use Rattle.std.specs.Prelude.{◌≡◌, length};
 ghost use Rattle.tables.specs.Rules.{rules, size_rule, schema_rule, document_rule, value_rule, rule_at};
 

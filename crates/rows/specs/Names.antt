@@ -15,7 +15,7 @@ abbrev pub name_text : List ℕ → List ℕ → ℕ → List ℕ
 name_text pool names row = text_of pool (name_at names row)
 
 -- "Names 0 to 11 are `__typename`, `Int`, `Float`, `String`, `Boolean`, `ID`, `__schema`, `__type`, `fields`, `interfaces`,
--- `possibleTypes`, `input_fields`."
+-- `possibleTypes`, `inputFields`."
 abbrev pub reserved : List String
 reserved =
     "__typename" ∷ "Int" ∷ "Float" ∷ "String" ∷ "Boolean" ∷ "ID"

@@ -1,13 +1,13 @@
 -- Rows past the twelve reserved names may have any. Assumes nothing.
-use mathlib.Core.Path.{◌≡◌, refl, sym}
+use mathlib.Core.Path.{◌≡◌, refl}
 use mathlib.Core.Bool.{true}
 use mathlib.Core.List.{List, [], ◌∷◌}
-use mathlib.Core.Option.{Option, none}
+use mathlib.Core.Option.{none}
 use Prim.Native.Nat.{ℕ, zero, suc, ◌≤◌}
 use native.Mathlib.Nat.{not-suc-le-zero, le_of_suc-le-suc}
 use lib.ListN.{length, get_elem?}
 use Rattle.rows.specs.Names.{reserved}
-use Rattle.rules.specs.Names.{reserved_as, spelled_as}
+use Rattle.rules.specs.Names.{reserved_as}
 
 past_end : {A : Type 0} (l : List A) (i : ℕ) → length l ≤ i → get_elem? l i ≡ none
 past_end [] i h = refl

@@ -14,8 +14,6 @@ use Rattle.rows.specs.declared.document.FieldSelection.{FieldSelection}
 use Rattle.rows.specs.declared.document.Selected.{Selected}
 use Rattle.rows.specs.declared.document.Selected.TheVariants.{Field, Spread, Inline, Unknown}
 use Rattle.rows.specs.declared.document.Selection.{Selection}
-use Rattle.rows.specs.declared.document.Given.{Given}
-use Rattle.rows.specs.declared.document.Fragment.{Fragment}
 
 -- "Selections .., in sets": a set is a range of selections
 abbrev pub set_row : ℕ → List ℕ → ℕ → Bool

@@ -12,7 +12,6 @@ use Rattle.rows.specs.declared.json.Node.{Node}
 use Rattle.rows.specs.declared.json.Node.TheVariants as node
 use Rattle.rows.specs.declared.json.Literal.{Literal}
 use Rattle.rows.specs.declared.json.Literal.TheVariants as literal
-use Rattle.rows.specs.declared.json.VariableValue.{VariableValue}
 
 -- "integer -2^63 to -1", by its magnitude, the low half first
 abbrev pub is_negative : ℕ → ℕ → Bool

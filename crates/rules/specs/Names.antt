@@ -1,5 +1,5 @@
 -- "Names, 12 to 512: 1 to 64 bytes, `[_A-Za-z][_0-9A-Za-z]*`, no two equal. Names 0 to 11 are `__typename`, `Int`, `Float`,
--- `String`, `Boolean`, `ID`, `__schema`, `__type`, `fields`, `interfaces`, `possibleTypes`, `input_fields`."
+-- `String`, `Boolean`, `ID`, `__schema`, `__type`, `fields`, `interfaces`, `possibleTypes`, `inputFields`."
 use Rattle.std.specs.Prelude.{List, Bool, true, not, ◌&&◌, ℕ, leb}
 use Rattle.std.proofs.Math.Option.{Option, none, some}
 use Prim.Native.String.{String}

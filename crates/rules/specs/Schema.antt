@@ -12,7 +12,6 @@ use Rattle.rows.specs.declared.schema.TypeKind.{TypeKind}
 use Rattle.rows.specs.declared.schema.TypeKind.TheVariants.{Scalar, Enum, Object, Interface, Union, InputObject, Unknown}
 use Rattle.rows.specs.declared.schema.TypeDef.{TypeDef}
 use Rattle.rows.specs.declared.schema.Field.{Field}
-use Rattle.rows.specs.declared.schema.Argument.{Argument}
 
 -- "named or list, each nullable or not; a list's inner row comes earlier"
 abbrev pub ref_lawful : ℕ → ℕ → TypeRef → Bool

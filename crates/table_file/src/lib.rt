@@ -1,6 +1,8 @@
 // Reads a table file, the text form of the sixteen tables, into words and a pool of bytes.
 //
 // A line has whole rows. What their numbers mean is not looked at here: that is the table check's to judge.
+#![tactic(auto)]
+
 pub mod fault;
 mod keywords;
 pub mod layout;

@@ -14,7 +14,7 @@ use Rattle.rules.specs.Schema.{type_row, type_parts, field_row, fields_differ, a
 use Rattle.rules.specs.Document.{set_row, selection_row, given_differ, child_sets_larger, selection_owns_alone, fragment_owns_alone}
 use Rattle.rules.specs.Json.{node_row, node_key_row, node_keys_differ, literal_row, literal_keys_differ}
 use Rattle.rules.specs.Answers.{answer_row, answer_names_differ, root_answer}
-use Rattle.tables.specs.Tables.{Tables, name_count, ref_count, type_count, member_count, field_count, argument_count, set_count, selection_count, given_count, fragment_count, node_count, literal_count, variable_count, answer_count}
+use Rattle.tables.specs.Tables.{Tables, name_count, ref_count, type_count, member_count, field_count, argument_count, set_count, selection_count, given_count, fragment_count, node_count, literal_count, answer_count}
 use Rattle.tables.specs.Rules.{size_holds, obeyed, rows_lawful}
 use Rattle.tables.specs.ByTable.{conj, schema_sizes, document_sizes, values_sizes, name_holds, field_holds, type_holds, selection_holds, set_holds, node_holds, literal_holds, schema_tests, document_tests, values_tests, by_table}
 use Rattle.tables.specs.declared.rule.Rule.{Rule}

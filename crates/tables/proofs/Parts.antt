@@ -7,7 +7,7 @@ use native.Mathlib.Omega.{arith}
 use borrow.Author.Tests.{eqb-true, eqb-false, ne_eqb, ltb-true}
 use lib.Dec.{ltb, eqb}
 use Rattle.rows.specs.Layout.{node_width, answer_width}
-use Rattle.rows.specs.Rows.{all, cell, option_of}
+use Rattle.rows.specs.Rows.{cell, option_of}
 use Rattle.rows.specs.Json.{node_of, node_at, literal_of}
 use Rattle.rows.specs.Answers.{answer_at, answer_of}
 use Rattle.rules.specs.Rows.{is_new, distinct, other}

@@ -6,11 +6,9 @@ use Prim.Native.Nat.{ℕ, suc, ◌+◌, ◌-◌, ◌≤◌, ◌<◌}
 use native.Mathlib.Decide.{dec_le}
 use native.Mathlib.Omega.{arith}
 use borrow.Author.Tests.{ltb-true, lt-ltb}
-use lib.Dec.{ltb, eqb}
 use lib.ListN.{length, get_or, set, length-set, replicate, length-replicate, get_or-replicate, get_or-eq_default}
 use lib.Seq.{get_or-set_same, get_or-set_other}
 use Rattle.rows.specs.Limits.{most_selections}
-use Rattle.rows.specs.Rows.{all}
 use Rattle.rules.specs.Document.{owned_set, larger_than, child_larger, children_larger}
 use Rattle.tables.specs.ByTable.{Skips, LargerUpTo}
 use Rattle.rows.specs.declared.layout.Range.{Range}

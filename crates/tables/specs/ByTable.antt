@@ -1,6 +1,6 @@
 -- The rules as the check looks at them: how long the tables are, and then table by table, all that concerns one row together. That this is
 -- `rows_lawful` is proved; no public contract cites it.
-use Rattle.std.specs.Prelude.{◌≡◌, Bool, true, not, ◌&&◌, ◌||◌, List, [], ◌∷◌, ℕ, ◌≤◌, ◌<◌, length, get_or, ltb, leb, eqb}
+use Rattle.std.specs.Prelude.{◌≡◌, Bool, true, not, ◌&&◌, ◌||◌, List, [], ◌∷◌, ℕ, ◌≤◌, ◌<◌, length, get_or, ltb, eqb}
 use Rattle.rows.specs.Layout.{name_width, type_ref_width, type_width, member_width, field_width, argument_width, set_width, selection_width, given_width, fragment_width, node_width, literal_width, variable_width, answer_width}
 use Rattle.rows.specs.Limits.{most_selections}
 use Rattle.rows.specs.Rows.{all, cell, rows_of}

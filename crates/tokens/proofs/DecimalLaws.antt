@@ -1,6 +1,6 @@
 -- `decimal` by its two cases, with no bound on the divisions: the bound that the definition takes is never reached, since n / 10 is less than n
 -- wherever n is divided. From these, the digits by the powers of ten that they count. Assumes nothing.
-use mathlib.Core.Path.{◌≡◌, refl, sym, ap, ◌∙◌}
+use mathlib.Core.Path.{◌≡◌, refl, ap, ◌∙◌}
 use mathlib.Core.Bool.{Bool, true, false}
 use mathlib.Core.List.{List, [], ◌∷◌, ◌++◌, append_assoc}
 use Prim.Native.Nat.{ℕ, zero, suc, ◌/◌, ◌%◌, ◌≤◌, ◌<◌}

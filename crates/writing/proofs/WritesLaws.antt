@@ -7,7 +7,7 @@ use native.Mathlib.Omega.{arith}
 use native.Mathlib.Nat.{zero-sub, suc-sub-suc, suc-add, zero-add, sub-zero}
 use lib.ListN.{length, take, drop, set, length-set, length-append, length-take, length-drop, take-append-drop}
 use lib.Seq.{set_out, length-take-le, take_all, take-add, take_at, take-nil, drop-nil}
-use Rattle.writing.specs.Wrote.{Wrote, Writes, written, saturated}
+use Rattle.writing.specs.Wrote.{Writes, written, saturated}
 
 -- ---- `written`, element by element
 

@@ -1,5 +1,5 @@
 -- The definitions of writing, at work. A text is a list of bytes: 44 is the comma, 48 the digit 0.
-use Rattle.std.specs.Prelude.{◌≡◌, refl, List, [], ◌∷◌, ℕ}
+use Rattle.std.specs.Prelude.{◌≡◌, refl, [], ◌∷◌}
 use Rattle.std.proofs.Math.Seq.{slice}
 use Rattle.writing.specs.Wrote.{written, saturated, bracketed, closed, closed_end, turned_into_place, zeroed_from}
 

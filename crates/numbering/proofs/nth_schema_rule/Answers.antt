@@ -4,7 +4,6 @@ use lib.ListN.{get_or-eq_default}
 use Rattle.tables.specs.Rules.{schema_rules}
 use Rattle.tables.specs.declared.rule.SchemaRule.TheVariants.{RootType}
 use Rattle.numbering.proofs.Counting.{past_all}
-use borrow.Author.Rules.{rules}
 use Rattle.numbering.proofs.nth_schema_rule.Goals as goal
 
 pub returns-in_default : goal.returns-in_default

@@ -1,5 +1,4 @@
 use Rattle.tables.proofs.Numbered.{rule_size, rule_schema, rule_document, rule_value}
-use borrow.Author.Rules.{rules}
 use native.Mathlib.Omega.{arith}
 use Rattle.numbering.proofs.rule_at.Goals as goal
 

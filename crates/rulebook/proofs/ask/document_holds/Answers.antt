@@ -1,4 +1,3 @@
-use borrow.Author.Rules.{rules}
 use Rattle.rulebook.proofs.ask.document_holds.Goals as goal
 
 pub returns-in-SetRow : goal.returns-in-SetRow

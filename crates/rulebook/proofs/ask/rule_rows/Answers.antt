@@ -1,5 +1,4 @@
 use Rattle.rulebook.proofs.Chapters.{schema_same, document_same, value_same}
-use borrow.Author.Rules.{rules}
 use Rattle.rulebook.proofs.ask.rule_rows.Goals as goal
 
 pub returns-in-Size : goal.returns-in-Size

@@ -1,4 +1,3 @@
-use borrow.Author.Rules.{rules}
 use Rattle.rulebook.proofs.ask.schema_holds.Goals as goal
 
 pub returns-in-NameSpelled : goal.returns-in-NameSpelled

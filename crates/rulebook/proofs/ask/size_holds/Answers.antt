@@ -1,4 +1,3 @@
-use borrow.Author.Rules.{rules}
 use Rattle.rulebook.proofs.ask.size_holds.Goals as goal
 
 pub returns-in-Pool : goal.returns-in-Pool

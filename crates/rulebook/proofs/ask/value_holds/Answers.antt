@@ -1,5 +1,4 @@
 use mathlib.Core.Bool.{false≢true}
-use borrow.Author.Rules.{rules}
 use Rattle.rulebook.proofs.ask.value_holds.Goals as goal
 
 pub node_row-requires : goal.node_row-requires

@@ -1,4 +1,3 @@
-use borrow.Author.Rules.{rules}
 use Rattle.rulebook.proofs.ask.value_rows.Goals as goal
 
 pub returns-in-NodeRow : goal.returns-in-NodeRow

@@ -1,11 +1,7 @@
 -- The rule holds at the rows passed, and the first at which it does not ends the search. Assumes nothing.
-use mathlib.Core.Path.{◌≡◌, sym, ◌∙◌}
-use mathlib.Core.Bool.{true}
-use Prim.Native.Nat.{◌≤◌, ◌-◌}
-use Rattle.rows.specs.Rows.{all}
+use mathlib.Core.Path.{sym, ◌∙◌}
 use Rattle.rows.proofs.Every.{falsified, all_none, all_more, all_ended}
-use Rattle.tables.specs.Tables.{tables}
-use Rattle.tables.specs.Rules.{holds_at, obeyed}
+use Rattle.tables.specs.Rules.{obeyed}
 use Rattle.tables.proofs.Lawful.{keys_obeyed}
 use borrow.Author.Rules.{rules}
 use Rattle.rulebook.proofs.broken.first_broken.Goals as goal

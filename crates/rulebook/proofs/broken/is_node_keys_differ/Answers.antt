@@ -1,5 +1,4 @@
 use mathlib.Core.Bool.{false≢true}
-use borrow.Author.Rules.{rules}
 use Rattle.rulebook.proofs.broken.is_node_keys_differ.Goals as goal
 
 pub returns-in_default : goal.returns-in_default

@@ -1,5 +1,4 @@
 use mathlib.Core.Bool.{false≢true}
-use borrow.Author.Rules.{rules}
 use Rattle.rulebook.proofs.broken.is_on_keys.Goals as goal
 
 pub returns-in-Value : goal.returns-in-Value

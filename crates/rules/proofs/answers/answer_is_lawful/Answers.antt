@@ -1,5 +1,4 @@
 use borrow.Author.Tests.{ne_eqb}
-use borrow.Author.Rules.{rules}
 use Rattle.rules.proofs.answers.answer_is_lawful.Goals as goal
 
 pub returns-in-0 : goal.returns-in-0

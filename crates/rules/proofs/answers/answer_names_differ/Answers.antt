@@ -1,4 +1,3 @@
-use borrow.Author.Rules.{rules}
 use Rattle.rules.proofs.answers.answer_names_differ.Goals as goal
 
 pub returns : goal.returns

@@ -1,4 +1,3 @@
-use borrow.Author.Rules.{rules}
 use Rattle.rules.proofs.answers.answer_parts.Goals as goal
 
 pub returns-in-Object : goal.returns-in-Object

@@ -1,5 +1,4 @@
 use Rattle.rows.specs.Answers.{answer_at}
-use borrow.Author.Rules.{rules}
 use Rattle.rules.proofs.answers.answer_row.Goals as goal
 
 pub returns : goal.returns

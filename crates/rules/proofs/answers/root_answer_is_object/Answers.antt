@@ -1,4 +1,3 @@
-use borrow.Author.Rules.{rules}
 use Rattle.rules.proofs.answers.root_answer_is_object.Goals as goal
 
 pub returns : goal.returns

@@ -1,4 +1,3 @@
-use borrow.Author.Rules.{rules}
 use Rattle.rules.proofs.document.child_sets_are_larger.Goals as goal
 
 pub returns : goal.returns

@@ -1,10 +1,6 @@
 -- The children passed are larger; one that is not ends the search. Assumes nothing.
-use mathlib.Core.Path.{◌≡◌}
-use mathlib.Core.Bool.{true}
-use Prim.Native.Nat.{◌≤◌, ◌-◌, ◌+◌}
 use borrow.Author.Rules.{rules}
-use Rattle.rows.specs.Rows.{all}
-use Rattle.rules.specs.Document.{child_larger, children_larger}
+use Rattle.rules.specs.Document.{children_larger}
 use Rattle.rows.proofs.Every.{every}
 use Rattle.rules.proofs.document.children_are_larger.Goals as goal
 

@@ -2,10 +2,8 @@
 use mathlib.Core.Path.{◌≡◌}
 use mathlib.Core.Bool.{true}
 use Prim.Native.Nat.{◌≤◌, ◌-◌, ◌+◌}
-use borrow.Author.Rules.{rules}
 use Rattle.rows.specs.Rows.{all}
-use Rattle.rules.specs.Document.{child_larger, children_larger}
-use Rattle.rows.proofs.Every.{every}
+use Rattle.rules.specs.Document.{child_larger}
 use Rattle.rules.proofs.document.children_are_larger.Given as goal
 
 abbrev pub invariant-loop-i : goal.invariant-loop-i

@@ -1,6 +1,5 @@
 use mathlib.Core.Path.{sym}
 use Rattle.rules.proofs.Words.{condition_word}
-use borrow.Author.Rules.{rules}
 use Rattle.rules.proofs.document.condition_is_lawful.Goals as goal
 
 pub returns : goal.returns

@@ -1,4 +1,3 @@
-use borrow.Author.Rules.{rules}
 use Rattle.rules.proofs.document.given_of.Goals as goal
 
 pub returns-in-Field : goal.returns-in-Field

@@ -1,4 +1,3 @@
-use borrow.Author.Rules.{rules}
 use Rattle.rules.proofs.document.is_larger_than.Goals as goal
 
 pub returns-in-Row : goal.returns-in-Row

@@ -1,10 +1,6 @@
 -- The selections passed own another set or none; one that owns this one ends the search. Assumes nothing.
-use mathlib.Core.Path.{◌≡◌}
-use mathlib.Core.Bool.{true}
-use Prim.Native.Nat.{◌≤◌, ◌-◌, ◌+◌}
 use borrow.Author.Rules.{rules}
-use Rattle.rows.specs.Rows.{all}
-use Rattle.rules.specs.Document.{owns_other, owned_set, owned_nowhere}
+use Rattle.rules.specs.Document.{owned_nowhere}
 use Rattle.rows.proofs.Every.{every}
 use Rattle.rules.proofs.document.is_owned_nowhere.Goals as goal
 

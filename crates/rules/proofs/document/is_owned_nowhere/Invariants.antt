@@ -1,11 +1,9 @@
 -- The selections passed own another set or none; one that owns this one ends the search. Assumes nothing.
 use mathlib.Core.Path.{◌≡◌}
 use mathlib.Core.Bool.{true}
-use Prim.Native.Nat.{◌≤◌, ◌-◌, ◌+◌}
-use borrow.Author.Rules.{rules}
+use Prim.Native.Nat.{◌≤◌, ◌-◌}
 use Rattle.rows.specs.Rows.{all}
-use Rattle.rules.specs.Document.{owns_other, owned_set, owned_nowhere}
-use Rattle.rows.proofs.Every.{every}
+use Rattle.rules.specs.Document.{owns_other, owned_set}
 use Rattle.rules.proofs.document.is_owned_nowhere.Given as goal
 
 abbrev pub invariant-loop-j : goal.invariant-loop-j

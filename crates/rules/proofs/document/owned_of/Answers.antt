@@ -1,5 +1,5 @@
 -- The kind and the set say which case holds. Assumes nothing.
-use borrow.Author.Tests.{ne_eqb, eq-eqb}
+use borrow.Author.Tests.{ne_eqb}
 use Rattle.rules.proofs.document.owned_of.Goals as goal
 
 pub returns-then-set-eq0 : goal.returns-then-set-eq0

@@ -1,5 +1,4 @@
 use Rattle.rules.specs.Document.{owned_set}
-use borrow.Author.Rules.{rules}
 use Rattle.rules.proofs.document.owned_set.Goals as goal
 
 pub returns : goal.returns

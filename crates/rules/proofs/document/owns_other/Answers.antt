@@ -1,4 +1,3 @@
-use borrow.Author.Rules.{rules}
 use Rattle.rules.proofs.document.owns_other.Goals as goal
 
 pub returns : goal.returns

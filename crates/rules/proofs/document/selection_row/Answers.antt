@@ -1,5 +1,4 @@
 use Rattle.rows.specs.Document.{selection_at, selection_of, field_selection, spread_selection, inline_selection}
-use borrow.Author.Rules.{rules}
 use Rattle.rules.proofs.document.selection_row.Goals as goal
 
 pub returns : goal.returns

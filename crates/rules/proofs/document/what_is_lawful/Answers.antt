@@ -1,6 +1,5 @@
 use borrow.Author.Tests.{ne_eqb}
 use Rattle.rules.proofs.Words.{option_row}
-use borrow.Author.Rules.{rules}
 use Rattle.rules.proofs.document.what_is_lawful.Goals as goal
 
 pub returns-in-0 : goal.returns-in-0

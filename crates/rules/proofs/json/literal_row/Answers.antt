@@ -1,5 +1,4 @@
 use Rattle.rows.specs.Json.{literal_at}
-use borrow.Author.Rules.{rules}
 use Rattle.rules.proofs.json.literal_row.Goals as goal
 
 pub returns : goal.returns

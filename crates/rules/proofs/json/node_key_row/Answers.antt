@@ -1,4 +1,3 @@
-use borrow.Author.Rules.{rules}
 use Rattle.rules.proofs.json.node_key_row.Goals as goal
 
 pub returns : goal.returns

@@ -1,10 +1,6 @@
 -- The rows passed have another key each; one that has the same key ends the search. Assumes nothing.
-use mathlib.Core.Path.{◌≡◌}
-use mathlib.Core.Bool.{true}
-use Prim.Native.Nat.{◌≤◌, ◌-◌, ◌+◌}
 use borrow.Author.Rules.{rules}
-use Rattle.rows.specs.Rows.{all}
-use Rattle.rules.specs.Json.{other_key, key_new}
+use Rattle.rules.specs.Json.{key_new}
 use Rattle.rows.proofs.Every.{every}
 use Rattle.rules.proofs.keys.is_new_key.Goals as goal
 

@@ -1,4 +1,3 @@
-use borrow.Author.Rules.{rules}
 use Rattle.rules.proofs.keys.is_other_key.Goals as goal
 
 pub returns : goal.returns

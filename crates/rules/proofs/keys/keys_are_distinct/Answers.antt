@@ -1,10 +1,6 @@
 -- Each row passed has a new key; one that has not ends the search. Assumes nothing.
-use mathlib.Core.Path.{◌≡◌}
-use mathlib.Core.Bool.{true}
-use Prim.Native.Nat.{◌≤◌, ◌-◌, ◌+◌}
 use borrow.Author.Rules.{rules}
-use Rattle.rows.specs.Rows.{all}
-use Rattle.rules.specs.Json.{key_new, keys_distinct}
+use Rattle.rules.specs.Json.{keys_distinct}
 use Rattle.rows.proofs.Every.{every}
 use Rattle.rules.proofs.keys.keys_are_distinct.Goals as goal
 

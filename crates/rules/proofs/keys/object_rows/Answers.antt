@@ -10,7 +10,6 @@ use Rattle.rows.specs.declared.layout.Range.{Range}
 use Rattle.rows.specs.declared.json.Node.{Node}
 use Rattle.rows.specs.declared.json.Node.TheVariants as node
 use Rattle.rows.specs.contracts.json.Node.{the_type}
-use borrow.Author.Rules.{rules}
 use Rattle.rules.proofs.keys.object_rows.Goals as goal
 
 -- the numbers of the constructors but that of an object

@@ -1,11 +1,6 @@
 -- Each row passed is new, and its word is marked; a row that is not new ends the search. Assumes nothing.
-use mathlib.Core.Path.{◌≡◌}
-use mathlib.Core.Bool.{true}
-use Prim.Native.Nat.{◌≤◌, ◌-◌}
 use borrow.Author.Rules.{rules}
-use Rattle.rows.specs.Rows.{all}
-use Rattle.rules.specs.Rows.{is_new, distinct}
-use Rattle.rules.specs.Marks.{Met}
+use Rattle.rules.specs.Rows.{distinct}
 use Rattle.rows.proofs.Every.{all_none, all_more, all_broken, all_ended}
 use Rattle.rules.proofs.Marks.{met_none}
 use Rattle.rules.proofs.layout.is_distinct.Goals as goal

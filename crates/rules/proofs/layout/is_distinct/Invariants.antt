@@ -2,12 +2,9 @@
 use mathlib.Core.Path.{◌≡◌}
 use mathlib.Core.Bool.{true}
 use Prim.Native.Nat.{◌≤◌, ◌-◌}
-use borrow.Author.Rules.{rules}
 use Rattle.rows.specs.Rows.{all}
-use Rattle.rules.specs.Rows.{is_new, distinct}
+use Rattle.rules.specs.Rows.{is_new}
 use Rattle.rules.specs.Marks.{Met}
-use Rattle.rows.proofs.Every.{all_none, all_more, all_broken, all_ended}
-use Rattle.rules.proofs.Marks.{met_none}
 use Rattle.rules.proofs.layout.is_distinct.Given as goal
 
 abbrev pub invariant-loop-i : goal.invariant-loop-i

@@ -1,4 +1,3 @@
-use borrow.Author.Rules.{rules}
 use Rattle.rules.proofs.layout.is_later.Goals as goal
 
 pub returns : goal.returns

@@ -1,10 +1,6 @@
 -- The rows passed have another word each; one that has the same word ends the search. Assumes nothing.
-use mathlib.Core.Path.{◌≡◌}
-use mathlib.Core.Bool.{true}
-use Prim.Native.Nat.{◌≤◌, ◌-◌, ◌+◌}
 use borrow.Author.Rules.{rules}
-use Rattle.rows.specs.Rows.{all}
-use Rattle.rules.specs.Rows.{other, is_new}
+use Rattle.rules.specs.Rows.{is_new}
 use Rattle.rows.proofs.Every.{every}
 use Rattle.rules.proofs.layout.is_new.Goals as goal
 

@@ -2,10 +2,8 @@
 use mathlib.Core.Path.{◌≡◌}
 use mathlib.Core.Bool.{true}
 use Prim.Native.Nat.{◌≤◌, ◌-◌, ◌+◌}
-use borrow.Author.Rules.{rules}
 use Rattle.rows.specs.Rows.{all}
-use Rattle.rules.specs.Rows.{other, is_new}
-use Rattle.rows.proofs.Every.{every}
+use Rattle.rules.specs.Rows.{other}
 use Rattle.rules.proofs.layout.is_new.Given as goal
 
 abbrev pub invariant-loop-j : goal.invariant-loop-j

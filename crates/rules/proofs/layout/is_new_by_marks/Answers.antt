@@ -1,5 +1,4 @@
 -- The mark of the row's word says whether it is new, and is set then; a word that has no mark is looked for. Assumes nothing.
-use borrow.Author.Rules.{rules}
 use Rattle.rules.proofs.Marks.{met_new, met_one, met_past}
 use Rattle.rules.proofs.layout.is_new_by_marks.Goals as goal
 

@@ -1,5 +1,4 @@
 -- The words are what `cell` ensures. Assumes nothing.
-use borrow.Author.Rules.{rules}
 use Rattle.rules.proofs.layout.is_other.Goals as goal
 
 pub returns : goal.returns

@@ -1,5 +1,4 @@
 -- The two texts are what `name_text` ensures. Assumes nothing.
-use borrow.Author.Rules.{rules}
 use Rattle.rules.proofs.names.is_other_name.Goals as goal
 
 pub returns : goal.returns

@@ -1,6 +1,5 @@
 -- Past the twelve any name may stand. Assumes nothing.
 use Rattle.rules.proofs.Reserved.{past_reserved}
-use borrow.Author.Rules.{rules}
 use native.Mathlib.Omega.{arith}
 use Rattle.rules.proofs.names.is_reserved_as.Goals as goal
 

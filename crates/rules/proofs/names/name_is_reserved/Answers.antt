@@ -1,5 +1,4 @@
 -- The text is what `name_text` ensures. Assumes nothing.
-use borrow.Author.Rules.{rules}
 use Rattle.rules.proofs.names.name_is_reserved.Goals as goal
 
 pub returns : goal.returns

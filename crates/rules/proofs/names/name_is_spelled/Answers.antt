@@ -1,5 +1,4 @@
 use Rattle.rules.specs.Names.{name_spelled}
-use borrow.Author.Rules.{rules}
 use Rattle.rules.proofs.names.name_is_spelled.Goals as goal
 
 pub returns : goal.returns

@@ -1,4 +1,3 @@
-use borrow.Author.Rules.{rules}
 use Rattle.rules.proofs.schema.field_is_lawful.Goals as goal
 
 pub returns : goal.returns

@@ -1,5 +1,4 @@
 use Rattle.rows.specs.Schema.{field_at}
-use borrow.Author.Rules.{rules}
 use Rattle.rules.proofs.schema.field_row.Goals as goal
 
 pub returns : goal.returns

@@ -1,4 +1,3 @@
-use borrow.Author.Rules.{rules}
 use Rattle.rules.proofs.schema.parts_are_lawful.Goals as goal
 
 pub returns-in-Scalar : goal.returns-in-Scalar

@@ -1,4 +1,3 @@
-use borrow.Author.Rules.{rules}
 use Rattle.rules.proofs.schema.root_is_object.Goals as goal
 
 pub returns : goal.returns

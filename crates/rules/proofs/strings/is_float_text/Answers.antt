@@ -1,4 +1,3 @@
-use borrow.Author.Rules.{rules}
 use Rattle.rules.proofs.strings.is_float_text.Goals as goal
 
 pub returns : goal.returns

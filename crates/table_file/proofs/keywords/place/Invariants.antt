@@ -1,5 +1,4 @@
 -- Each word of the list lies past the one before. Assumes nothing.
-use borrow.Author.Rules.{rules}
 use Prim.Native.Nat.{◌≤◌, ◌-◌}
 use lib.ListN.{length}
 use Rattle.table_file.proofs.keywords.place.Given as goal

@@ -1,9 +1,6 @@
 -- Each line is a byte long at least, so there are no more lines than bytes. Where nothing is held, sizes are within their bounds. Assumes nothing.
 use borrow.Author.Rules.{rules}
-use Prim.Native.Nat.{◌≤◌, ◌-◌}
-use lib.ListN.{length}
 use Rattle.table_file.proofs.Held.{nothing_held}
-use Rattle.table_file.specs.Sizes.{Within}
 use Rattle.table_file.proofs.lines.read_beyond.Goals as goal
 
 pub loop-at-init : goal.loop-at-init

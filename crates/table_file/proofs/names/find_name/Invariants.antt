@@ -1,6 +1,5 @@
 -- The rows passed are below the number of rows. Assumes nothing.
 use Prim.Native.Nat.{◌≤◌, ◌-◌}
-use borrow.Author.Rules.{rules}
 use Rattle.table_file.proofs.names.find_name.Given as goal
 
 abbrev pub invariant-loop-row : goal.invariant-loop-row

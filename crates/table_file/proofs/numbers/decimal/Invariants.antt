@@ -1,5 +1,4 @@
 -- A value of which the tenfold could pass 64 bits is refused before, and so is a digit that does not fit on top. Assumes nothing.
-use borrow.Author.Rules.{rules}
 use Prim.Native.Nat.{◌≤◌, ◌-◌}
 use lib.ListN.{length}
 use Rattle.table_file.proofs.numbers.decimal.Given as goal

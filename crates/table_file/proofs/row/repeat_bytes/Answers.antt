@@ -1,6 +1,4 @@
 -- All bytes fit into the pool before the first is copied. Assumes nothing.
-use borrow.Author.Rules.{rules}
-use Prim.Native.Nat.{◌≤◌, ◌-◌}
 use native.Mathlib.Omega.{arith}
 use Rattle.table_file.proofs.Held.{copies_fit}
 use Rattle.table_file.proofs.row.repeat_bytes.Goals as goal

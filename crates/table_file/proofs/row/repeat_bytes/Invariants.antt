@@ -1,8 +1,5 @@
 -- All bytes fit into the pool before the first is copied. Assumes nothing.
-use borrow.Author.Rules.{rules}
 use Prim.Native.Nat.{◌≤◌, ◌-◌}
-use native.Mathlib.Omega.{arith}
-use Rattle.table_file.proofs.Held.{copies_fit}
 use Rattle.table_file.proofs.row.repeat_bytes.Given as goal
 
 abbrev pub invariant-loop-k : goal.invariant-loop-k

@@ -1,6 +1,4 @@
 -- All words fit into the table's region before the first is copied. Assumes nothing.
-use borrow.Author.Rules.{rules}
-use Prim.Native.Nat.{◌≤◌, ◌-◌}
 use native.Mathlib.Omega.{arith}
 use Rattle.table_file.proofs.Held.{copies_fit, table-set}
 use Rattle.table_file.proofs.row.repeat_words.Goals as goal

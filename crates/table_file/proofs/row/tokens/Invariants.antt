@@ -1,5 +1,4 @@
 -- Each token is a byte long at least. Assumes nothing.
-use borrow.Author.Rules.{rules}
 use Prim.Native.Nat.{◌≤◌, ◌-◌}
 use lib.ListN.{length}
 use Rattle.table_file.specs.Sizes.{Within}

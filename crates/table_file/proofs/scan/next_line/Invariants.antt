@@ -1,5 +1,4 @@
 -- A line's end and the text's end are both past a position within the text. Assumes nothing.
-use borrow.Author.Rules.{rules}
 use Prim.Native.Nat.{◌≤◌, ◌-◌}
 use lib.ListN.{length}
 use Rattle.table_file.proofs.scan.next_line.Given as goal

@@ -1,5 +1,4 @@
 -- Every place that is passed lies within the text. Assumes nothing.
-use borrow.Author.Rules.{rules}
 use Prim.Native.Nat.{◌≤◌, ◌-◌}
 use lib.ListN.{length}
 use Rattle.table_file.proofs.scan.token_end.Given as goal

@@ -1,7 +1,6 @@
 -- One word is added where the region has room for it. Assumes nothing.
 use native.Mathlib.Omega.{arith}
 use Rattle.table_file.proofs.Held.{table-set}
-use borrow.Author.Rules.{rules}
 use Rattle.table_file.proofs.store.append.Goals as goal
 
 pub returns : goal.returns

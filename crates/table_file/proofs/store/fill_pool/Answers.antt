@@ -1,6 +1,5 @@
 -- Sizes may change to what there is room for. Assumes nothing.
 use Rattle.table_file.proofs.Held.{pool_set}
-use borrow.Author.Rules.{rules}
 use Rattle.table_file.proofs.store.fill_pool.Goals as goal
 
 pub returns : goal.returns

@@ -3,7 +3,6 @@ use mathlib.Core.Path.{sym}
 use native.Mathlib.Omega.{arith}
 use lib.ListN.{get_or-eq_default}
 use Rattle.table_file.specs.Held.{root_of}
-use borrow.Author.Rules.{rules}
 use Rattle.table_file.proofs.store.root.Goals as goal
 
 pub returns-then-given-gt0 : goal.returns-then-given-gt0

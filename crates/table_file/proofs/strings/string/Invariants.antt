@@ -1,5 +1,4 @@
 -- Each letter takes a byte of the text at least, and fills one of the pool. Assumes nothing.
-use borrow.Author.Rules.{rules}
 use Prim.Native.Nat.{◌≤◌, ◌-◌}
 use lib.ListN.{length}
 use Rattle.table_file.proofs.strings.string.Given as goal

@@ -1,7 +1,6 @@
 -- A row among the names is a small number, so that a little more is a word too. Assumes nothing.
 use native.Mathlib.Omega.{arith}
 use Rattle.table_file.proofs.Held.{few_names}
-use borrow.Author.Rules.{rules}
 use Rattle.table_file.proofs.tokens.name_value.Goals as goal
 
 pub overflow_add-row : goal.overflow_add-row

@@ -1,7 +1,6 @@
 -- The tests table by table are the rules. Assumes nothing.
 use mathlib.Core.Bool.{◌&&◌}
 use Rattle.tables.proofs.ByTable.{stop_sizes, stop_schema, stop_document, go_values, sized_names, sized_selections}
-use borrow.Author.Rules.{rules}
 use Rattle.tables.proofs.check.rows_are_lawful.Goals as goal
 
 pub returns-then-not-sized : goal.returns-then-not-sized

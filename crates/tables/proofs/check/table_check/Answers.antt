@@ -1,7 +1,6 @@
 -- The two halves of the check say which code the definition gives; the second rests on the first. Assumes nothing.
 use Rattle.tables.proofs.Lawful.{code_rows, code_defaults, code_lawful}
 use Rattle.tables.proofs.Facts.{searched}
-use borrow.Author.Rules.{rules}
 use Rattle.tables.proofs.check.table_check.Goals as goal
 
 pub returns-then-not-rows_are_lawful : goal.returns-then-not-rows_are_lawful

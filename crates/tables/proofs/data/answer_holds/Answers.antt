@@ -1,5 +1,4 @@
 use Rattle.rows.specs.Answers.{answer_at}
-use borrow.Author.Rules.{rules}
 use Rattle.tables.proofs.data.answer_holds.Goals as goal
 
 pub returns-then-kind-eq2 : goal.returns-then-kind-eq2

@@ -1,5 +1,4 @@
 use borrow.Author.Tests.{ne_eqb}
-use borrow.Author.Rules.{rules}
 use Rattle.tables.proofs.data.answer_is_plain.Goals as goal
 
 pub returns-then-word-ne4 : goal.returns-then-word-ne4

@@ -3,7 +3,6 @@ use Rattle.rows.specs.Layout.{answer_width}
 use Rattle.rows.specs.Rows.{cell}
 use Rattle.rows.specs.Answers.{answer_at}
 use Rattle.tables.proofs.Parts.{no_names}
-use borrow.Author.Rules.{rules}
 use Rattle.tables.proofs.data.answer_names_differ_since.Goals as goal
 
 pub returns-then-word-ne4 : goal.returns-then-word-ne4

@@ -3,7 +3,6 @@ use mathlib.Core.Path.{sym}
 use Rattle.rows.proofs.Every.{all_at, all_each}
 use Rattle.tables.proofs.Chained.{turned_true, turned_false}
 use Rattle.tables.proofs.Parts.{plain_differs}
-use borrow.Author.Rules.{rules}
 use Rattle.tables.proofs.data.answers_hold.Goals as goal
 
 pub returns-then-not-seen : goal.returns-then-not-seen

@@ -3,7 +3,6 @@ use lib.Dec.{ltb}
 use Rattle.tables.specs.ByTable.{literal_holds}
 use Rattle.rows.specs.Json.{literal_at}
 use Rattle.tables.proofs.Chained.{turned_true, turned_false}
-use borrow.Author.Rules.{rules}
 use Rattle.tables.proofs.data.literal_holds.Goals as goal
 
 pub returns-then-not-lawful : goal.returns-then-not-lawful

@@ -1,5 +1,4 @@
 use Rattle.tables.proofs.Parts.{no_keys}
-use borrow.Author.Rules.{rules}
 use Rattle.tables.proofs.data.literal_keys_differ_since.Goals as goal
 
 pub returns-then-kind-ne8 : goal.returns-then-kind-ne8

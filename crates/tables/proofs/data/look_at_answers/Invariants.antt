@@ -1,8 +1,7 @@
 use Prim.Native.Nat.{◌≤◌, ◌-◌}
-use borrow.Author.Rules.{rules}
 use Rattle.rules.specs.Answers.{answer_row}
 use Rattle.tables.specs.ByTable.{plain_answer}
-use Rattle.tables.proofs.Looked.{Passed, passed_none, passed_more, looked_broken, looked_ended}
+use Rattle.tables.proofs.Looked.{Passed}
 use Rattle.tables.proofs.data.look_at_answers.Given as goal
 
 abbrev pub invariant-loop-row : goal.invariant-loop-row

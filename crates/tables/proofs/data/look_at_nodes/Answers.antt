@@ -1,8 +1,5 @@
-use Prim.Native.Nat.{◌≤◌, ◌-◌}
 use borrow.Author.Rules.{rules}
-use Rattle.distinct.specs.Plain.{is_plain}
-use Rattle.tables.specs.ByTable.{node_holds}
-use Rattle.tables.proofs.Looked.{Passed, passed_none, passed_more, looked_broken, looked_ended}
+use Rattle.tables.proofs.Looked.{passed_none, passed_more, looked_broken, looked_ended}
 use Rattle.tables.proofs.data.look_at_nodes.Goals as goal
 
 pub loop-row-init : goal.loop-row-init

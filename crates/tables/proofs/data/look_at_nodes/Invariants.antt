@@ -1,8 +1,7 @@
 use Prim.Native.Nat.{◌≤◌, ◌-◌}
-use borrow.Author.Rules.{rules}
 use Rattle.distinct.specs.Plain.{is_plain}
 use Rattle.tables.specs.ByTable.{node_holds}
-use Rattle.tables.proofs.Looked.{Passed, passed_none, passed_more, looked_broken, looked_ended}
+use Rattle.tables.proofs.Looked.{Passed}
 use Rattle.tables.proofs.data.look_at_nodes.Given as goal
 
 abbrev pub invariant-loop-row : goal.invariant-loop-row

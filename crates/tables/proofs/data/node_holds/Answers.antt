@@ -2,7 +2,6 @@ use Rattle.tables.specs.ByTable.{node_holds}
 use Rattle.rows.specs.Json.{node_at, node_key}
 use Rattle.tables.proofs.Chained.{turned_true, turned_false}
 use Rattle.tables.proofs.Parts.{small_node}
-use borrow.Author.Rules.{rules}
 use Rattle.tables.proofs.data.node_holds.Goals as goal
 
 pub returns-then-not-is_string : goal.returns-then-not-is_string

@@ -1,6 +1,5 @@
 use Rattle.rows.specs.Json.{node_at}
 use Rattle.tables.proofs.Parts.{no_object_keys}
-use borrow.Author.Rules.{rules}
 use Rattle.tables.proofs.data.node_is_plain.Goals as goal
 
 pub returns-then-word-ne8 : goal.returns-then-word-ne8

@@ -2,7 +2,6 @@
 use mathlib.Core.Path.{sym}
 use Rattle.tables.proofs.Chained.{turned_true, turned_false}
 use Rattle.distinct.proofs.Plain.{plain_differ}
-use borrow.Author.Rules.{rules}
 use Rattle.tables.proofs.data.nodes_hold.Goals as goal
 
 pub returns-then-not-seen : goal.returns-then-not-seen

@@ -1,7 +1,6 @@
 use mathlib.Core.Path.{sym, ◌∙◌}
 use Rattle.tables.specs.ByTable.{conj}
 use Rattle.tables.proofs.Chained.{turned_true, conj_broken}
-use borrow.Author.Rules.{rules}
 use Rattle.tables.proofs.data.values_are_lawful.Goals as goal
 
 pub nodes_hold-requires : goal.nodes_hold-requires

@@ -1,5 +1,4 @@
 use borrow.Author.Tests.{ne_eqb}
-use borrow.Author.Rules.{rules}
 use Rattle.tables.proofs.defaults.default_is_unmarked.Goals as goal
 
 pub returns-then-default-eq0 : goal.returns-then-default-eq0

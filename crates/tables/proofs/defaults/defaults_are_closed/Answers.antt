@@ -1,6 +1,5 @@
 -- The runs are right, so a default is in one just if it is closed. Assumes nothing.
 use Rattle.tables.proofs.Closed.{mark_none, defaults_closed_lem}
-use borrow.Author.Rules.{rules}
 use Rattle.tables.proofs.defaults.defaults_are_closed.Goals as goal
 
 pub mark_all-requires : goal.mark_all-requires

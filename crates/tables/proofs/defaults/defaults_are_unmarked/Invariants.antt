@@ -1,11 +1,9 @@
 -- The defaults passed are unmarked; one that is marked ends the search. Assumes nothing.
-use mathlib.Core.Path.{◌≡◌, ◌∙◌}
+use mathlib.Core.Path.{◌≡◌}
 use mathlib.Core.Bool.{true}
 use Prim.Native.Nat.{◌≤◌, ◌-◌}
-use borrow.Author.Rules.{rules}
 use Rattle.rows.specs.Rows.{all}
 use Rattle.tables.specs.Marking.{row_unmarked}
-use Rattle.rows.proofs.Every.{all_none, all_more, all_broken, all_ended}
 use Rattle.tables.proofs.defaults.defaults_are_unmarked.Given as goal
 
 abbrev pub invariant-loop-row : goal.invariant-loop-row

@@ -1,5 +1,4 @@
 use Rattle.tables.proofs.Closed.{no_parts}
-use borrow.Author.Rules.{rules}
 use Rattle.tables.proofs.defaults.is_closed.Goals as goal
 
 pub returns-in-7 : goal.returns-in-7

@@ -1,4 +1,3 @@
-use borrow.Author.Rules.{rules}
 use Rattle.tables.proofs.defaults.is_in_run.Goals as goal
 
 pub returns : goal.returns

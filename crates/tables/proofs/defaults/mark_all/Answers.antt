@@ -1,9 +1,6 @@
 -- From the last row on the runs are right; the parts of a literal come later, and theirs are kept already. Assumes nothing.
 use mathlib.Core.Path.{◌≡◌}
-use Prim.Native.Nat.{◌+◌, ◌-◌, ◌≤◌}
-use Rattle.rows.specs.Layout.{literal_width}
-use Rattle.rows.specs.Rows.{rows_of}
-use Rattle.tables.specs.Marking.{Marked}
+use Prim.Native.Nat.{◌+◌, ◌-◌}
 use Rattle.tables.proofs.Closed.{mark_turn, mark_end}
 use borrow.Author.Rules.{rules}
 use native.Mathlib.Omega.{arith}

@@ -1,7 +1,6 @@
 -- The run is what the callees ensure, and none is longer than there is room for. Assumes nothing.
 use Prim.Native.Nat.{◌+◌}
 use native.Mathlib.Omega.{arith}
-use borrow.Author.Rules.{rules}
 use Rattle.tables.proofs.defaults.mark_row.Goals as goal
 
 pub run_of-requires : goal.run_of-requires

@@ -1,5 +1,4 @@
 use Rattle.rows.specs.Json.{literal_at}
-use borrow.Author.Rules.{rules}
 use Rattle.tables.proofs.defaults.row_is_closed.Goals as goal
 
 pub returns : goal.returns

@@ -1,7 +1,6 @@
 -- No run begins past the last row. Assumes nothing.
 use mathlib.Core.Path.{sym}
 use lib.ListN.{get_or-eq_default}
-use borrow.Author.Rules.{rules}
 use Rattle.tables.proofs.defaults.run_at.Goals as goal
 
 pub returns-else-row-runs : goal.returns-else-row-runs

@@ -1,4 +1,3 @@
-use borrow.Author.Rules.{rules}
 use Rattle.tables.proofs.defaults.run_of.Goals as goal
 
 pub returns-then-closed : goal.returns-then-closed

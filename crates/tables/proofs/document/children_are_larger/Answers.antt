@@ -1,10 +1,7 @@
 -- The child sets of the selections passed are larger; one that is not ends the search. Assumes nothing.
 use mathlib.Core.Path.{◌≡◌}
-use Prim.Native.Nat.{◌≤◌, ◌<◌, ◌-◌, ◌+◌}
-use borrow.Author.Rules.{rules}
+use Prim.Native.Nat.{◌<◌, ◌+◌}
 use native.Mathlib.Omega.{arith}
-use lib.ListN.{length, length-set}
-use Rattle.tables.specs.ByTable.{Skips, LargerUpTo}
 use Rattle.rows.proofs.Every.{verified}
 use Rattle.tables.proofs.Skips.{skips_set, larger_more, larger_all, larger_broken}
 use Rattle.tables.proofs.document.children_are_larger.Goals as goal

@@ -1,9 +1,4 @@
-use mathlib.Core.Path.{◌≡◌}
-use mathlib.Core.Bool.{true}
-use Prim.Native.Nat.{◌≤◌, ◌-◌}
 use borrow.Author.Rules.{rules}
-use Rattle.rows.specs.Rows.{all}
-use Rattle.rules.specs.Document.{fragment_row}
 use Rattle.rows.proofs.Every.{all_none, all_more, all_broken, all_ended}
 use Rattle.tables.proofs.document.each_fragment_holds.Goals as goal
 

@@ -5,10 +5,7 @@ use mathlib.Core.Bool.{Bool, true, not, false}
 use Prim.Native.Nat.{ℕ, ◌≤◌, ◌<◌, ◌-◌}
 use native.Mathlib.Decide.{dec_le}
 use native.Mathlib.Omega.{arith}
-use borrow.Author.Rules.{rules}
-use Rattle.rows.specs.Layout.{set_width}
-use Rattle.rows.specs.Rows.{rows_of}
-use Rattle.tables.specs.ByTable.{set_holds, Skips}
+use Rattle.tables.specs.ByTable.{set_holds}
 use Rattle.rows.proofs.Every.{all_broken, all_each, verified}
 use Rattle.tables.proofs.Skips.{skips_none, skips_smaller}
 use Rattle.tables.proofs.document.each_set_holds.Goals as goal

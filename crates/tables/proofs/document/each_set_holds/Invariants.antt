@@ -1,16 +1,10 @@
 -- From the last set on: those passed hold, and one that does not ends the search. Assumes nothing.
-use mathlib.Core.Path.{◌≡◌, sym}
-use mathlib.Core.List.{List}
-use mathlib.Core.Bool.{Bool, true, not, false}
-use Prim.Native.Nat.{ℕ, ◌≤◌, ◌<◌, ◌-◌}
-use native.Mathlib.Decide.{dec_le}
-use native.Mathlib.Omega.{arith}
-use borrow.Author.Rules.{rules}
+use mathlib.Core.Path.{◌≡◌}
+use mathlib.Core.Bool.{true}
+use Prim.Native.Nat.{ℕ, ◌≤◌, ◌<◌}
 use Rattle.rows.specs.Layout.{set_width}
 use Rattle.rows.specs.Rows.{rows_of}
 use Rattle.tables.specs.ByTable.{set_holds, Skips}
-use Rattle.rows.proofs.Every.{all_broken, all_each, verified}
-use Rattle.tables.proofs.Skips.{skips_none, skips_smaller}
 use Rattle.tables.proofs.document.each_set_holds.Given as goal
 
 abbrev pub invariant-loop-set : goal.invariant-loop-set

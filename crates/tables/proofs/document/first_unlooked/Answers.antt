@@ -1,10 +1,5 @@
 -- Each way leads on past selections whose child sets are larger, and so do two of them. Assumes nothing.
-use mathlib.Core.Path.{◌≡◌}
-use Prim.Native.Nat.{◌≤◌, ◌-◌, ◌+◌}
-use borrow.Author.Rules.{rules}
 use native.Mathlib.Omega.{arith}
-use lib.ListN.{length, length-set}
-use Rattle.tables.specs.ByTable.{Skips, LargerUpTo}
 use Rattle.tables.proofs.Skips.{skips_double, larger_none, larger_on}
 use Rattle.tables.proofs.document.first_unlooked.Goals as goal
 

@@ -1,5 +1,4 @@
 use Rattle.tables.proofs.Parts.{none_given}
-use borrow.Author.Rules.{rules}
 use Rattle.tables.proofs.document.given_differ_since.Goals as goal
 
 pub returns-then-kind-ne0 : goal.returns-then-kind-ne0

@@ -1,5 +1,4 @@
 use Rattle.rows.specs.Document.{given_at}
-use borrow.Author.Rules.{rules}
 use Rattle.tables.proofs.document.given_holds.Goals as goal
 
 pub returns : goal.returns

@@ -1,7 +1,6 @@
 use Rattle.tables.specs.ByTable.{selection_holds}
 use Rattle.rows.specs.Document.{selection_at, selection_of, field_selection, spread_selection, inline_selection}
 use Rattle.tables.proofs.Chained.{turned_true, turned_false}
-use borrow.Author.Rules.{rules}
 use Rattle.tables.proofs.document.selection_holds.Goals as goal
 
 pub returns-then-not-selection_is_lawful : goal.returns-then-not-selection_is_lawful

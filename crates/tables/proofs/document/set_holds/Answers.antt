@@ -6,7 +6,6 @@ use borrow.Author.Tests.{leb-true}
 use Rattle.rows.proofs.Every.{verified}
 use Rattle.tables.specs.ByTable.{set_holds}
 use Rattle.tables.proofs.Chained.{turned_true, turned_false}
-use borrow.Author.Rules.{rules}
 use Rattle.tables.proofs.document.set_holds.Goals as goal
 
 pub returns-then-not-set_row : goal.returns-then-not-set_row

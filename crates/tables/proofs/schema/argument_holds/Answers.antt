@@ -1,5 +1,4 @@
 use Rattle.rows.specs.Schema.{argument_at}
-use borrow.Author.Rules.{rules}
 use Rattle.tables.proofs.schema.argument_holds.Goals as goal
 
 pub returns : goal.returns

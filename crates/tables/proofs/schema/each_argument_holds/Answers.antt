@@ -1,9 +1,4 @@
-use mathlib.Core.Path.{◌≡◌}
-use mathlib.Core.Bool.{true}
-use Prim.Native.Nat.{◌≤◌, ◌-◌}
 use borrow.Author.Rules.{rules}
-use Rattle.rows.specs.Rows.{all}
-use Rattle.rules.specs.Schema.{argument_row}
 use Rattle.rows.proofs.Every.{all_none, all_more, all_broken, all_ended}
 use Rattle.tables.proofs.schema.each_argument_holds.Goals as goal
 

@@ -1,7 +1,6 @@
 use Rattle.tables.specs.ByTable.{field_holds}
 use Rattle.rows.specs.Schema.{field_at}
 use Rattle.tables.proofs.Chained.{turned_true, turned_false}
-use borrow.Author.Rules.{rules}
 use Rattle.tables.proofs.schema.field_holds.Goals as goal
 
 pub returns-then-not-field_is_lawful : goal.returns-then-not-field_is_lawful

@@ -1,4 +1,3 @@
-use borrow.Author.Rules.{rules}
 use Rattle.tables.proofs.schema.member_holds.Goals as goal
 
 pub returns : goal.returns

@@ -1,5 +1,4 @@
 use Rattle.tables.specs.ByTable.{name_holds}
-use borrow.Author.Rules.{rules}
 use Rattle.tables.proofs.schema.name_holds.Goals as goal
 
 pub returns : goal.returns

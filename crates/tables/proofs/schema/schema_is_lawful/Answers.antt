@@ -1,6 +1,5 @@
 use Rattle.tables.specs.ByTable.{conj}
 use Rattle.tables.proofs.Chained.{turned_true, conj_broken}
-use borrow.Author.Rules.{rules}
 use Rattle.tables.proofs.schema.schema_is_lawful.Goals as goal
 
 pub returns-then-not-each_name_holds : goal.returns-then-not-each_name_holds

@@ -1,7 +1,6 @@
 use mathlib.Core.Bool.{◌&&◌}
 use Rattle.tables.specs.ByTable.{type_holds}
 use Rattle.tables.proofs.Chained.{turned_true, turned_false}
-use borrow.Author.Rules.{rules}
 use Rattle.tables.proofs.schema.type_holds.Goals as goal
 
 pub returns-then-not-lawful : goal.returns-then-not-lawful

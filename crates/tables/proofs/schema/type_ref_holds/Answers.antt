@@ -1,5 +1,4 @@
 use Rattle.rows.specs.Schema.{type_ref_at}
-use borrow.Author.Rules.{rules}
 use Rattle.tables.proofs.schema.type_ref_holds.Goals as goal
 
 pub returns : goal.returns

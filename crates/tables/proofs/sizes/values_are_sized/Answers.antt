@@ -1,5 +1,4 @@
 use Rattle.tables.specs.ByTable.{conj}
-use borrow.Author.Rules.{rules}
 use Rattle.tables.proofs.sizes.values_are_sized.Goals as goal
 
 pub returns : goal.returns

@@ -1,11 +1,5 @@
 -- What an `|` gathers has its highest bit just if one of the octets has. Assumes nothing.
-use mathlib.Core.Path.{◌≡◌}
-use Prim.Native.Nat.{◌-◌}
-use lib.Dec.{ltb}
-use lib.ListN.{length, take}
-use Rattle.text.specs.Ascii.{is_ascii}
 use Rattle.text.proofs.ascii.Runs.{gathered_none, gathered_more, gathered_all}
-use borrow.Author.Rules.{rules}
 use Rattle.text.proofs.ascii.is_ascii.Goals as goal
 
 pub loop-i-init : goal.loop-i-init

@@ -4,8 +4,6 @@ use Prim.Native.Nat.{◌-◌}
 use lib.Dec.{ltb}
 use lib.ListN.{length, take}
 use Rattle.text.specs.Ascii.{is_ascii}
-use Rattle.text.proofs.ascii.Runs.{gathered_none, gathered_more, gathered_all}
-use borrow.Author.Rules.{rules}
 use Rattle.text.proofs.ascii.is_ascii.Given as goal
 
 abbrev pub invariant-loop-i : goal.invariant-loop-i

@@ -1,6 +1,5 @@
 -- Runs of US-ASCII, one behind the other, are one run. Assumes nothing.
 use Rattle.text.proofs.ascii.Runs.{past_all}
-use borrow.Author.Rules.{rules}
 use Rattle.text.proofs.ascii.past_ascii.Goals as goal
 
 pub returns : goal.returns

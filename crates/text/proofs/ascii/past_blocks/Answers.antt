@@ -1,9 +1,5 @@
 -- Blocks of US-ASCII, one behind the other, are US-ASCII. Assumes nothing.
-use Prim.Native.Nat.{◌-◌}
-use lib.ListN.{length}
-use Rattle.text.specs.Found.{AsciiBlocks}
 use Rattle.text.proofs.ascii.Runs.{blocks_none, blocks_more, blocks_other, blocks_over}
-use borrow.Author.Rules.{rules}
 use Rattle.text.proofs.ascii.past_blocks.Goals as goal
 
 pub loop-at-init : goal.loop-at-init

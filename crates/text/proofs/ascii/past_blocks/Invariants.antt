@@ -2,8 +2,6 @@
 use Prim.Native.Nat.{◌-◌}
 use lib.ListN.{length}
 use Rattle.text.specs.Found.{AsciiBlocks}
-use Rattle.text.proofs.ascii.Runs.{blocks_none, blocks_more, blocks_other, blocks_over}
-use borrow.Author.Rules.{rules}
 use Rattle.text.proofs.ascii.past_blocks.Given as goal
 
 abbrev pub invariant-loop-at : goal.invariant-loop-at

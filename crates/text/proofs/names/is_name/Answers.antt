@@ -1,10 +1,5 @@
 -- A text is a name just if what is left of it, behind a NameStart and any number of NameContinue, is all NameContinue. Assumes nothing.
-use mathlib.Core.Path.{◌≡◌}
-use Prim.Native.Nat.{◌-◌}
-use lib.ListN.{length, drop}
-use Rattle.text.specs.Names.{is_name, all_name_continue}
 use Rattle.text.proofs.names.Spelled.{name_empty, name_refused, name_begun, name_stopped, name_continued, name_ended}
-use borrow.Author.Rules.{rules}
 use Rattle.text.proofs.names.is_name.Goals as goal
 
 pub returns-then-s-eq0 : goal.returns-then-s-eq0

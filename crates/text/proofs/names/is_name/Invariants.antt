@@ -3,8 +3,6 @@ use mathlib.Core.Path.{◌≡◌}
 use Prim.Native.Nat.{◌-◌}
 use lib.ListN.{length, drop}
 use Rattle.text.specs.Names.{is_name, all_name_continue}
-use Rattle.text.proofs.names.Spelled.{name_empty, name_refused, name_begun, name_stopped, name_continued, name_ended}
-use borrow.Author.Rules.{rules}
 use Rattle.text.proofs.names.is_name.Given as goal
 
 abbrev pub invariant-loop-i : goal.invariant-loop-i

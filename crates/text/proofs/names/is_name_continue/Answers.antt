@@ -1,6 +1,5 @@
 -- NameContinue is NameStart or Digit. Assumes nothing.
 use Rattle.text.proofs.names.Spelled.{continue_start, continue_digit, continue_none}
-use borrow.Author.Rules.{rules}
 use Rattle.text.proofs.names.is_name_continue.Goals as goal
 
 pub returns-then-is_name_start : goal.returns-then-is_name_start

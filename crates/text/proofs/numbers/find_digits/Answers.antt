@@ -1,6 +1,5 @@
 -- 1*DIGIT is a digit, and then all the digits that follow it. Assumes nothing.
 use Rattle.text.proofs.numbers.Parts.{no_digits1, digits1_there, digits1_absent}
-use borrow.Author.Rules.{rules}
 use Rattle.text.proofs.numbers.find_digits.Goals as goal
 
 pub returns-then-s-at : goal.returns-then-s-at

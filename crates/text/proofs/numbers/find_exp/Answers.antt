@@ -1,6 +1,5 @@
 -- An exp is an e, a sign or none, and digits. Assumes nothing.
 use Rattle.text.proofs.numbers.Parts.{no_exp, exp_there, exp_absent}
-use borrow.Author.Rules.{rules}
 use Rattle.text.proofs.numbers.find_exp.Goals as goal
 
 pub returns-then-s-at : goal.returns-then-s-at

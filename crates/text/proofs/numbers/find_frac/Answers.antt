@@ -1,6 +1,5 @@
 -- A frac is a decimal point and digits. Assumes nothing.
 use Rattle.text.proofs.numbers.Parts.{no_frac, frac_there, frac_absent}
-use borrow.Author.Rules.{rules}
 use Rattle.text.proofs.numbers.find_frac.Goals as goal
 
 pub returns-then-s-at : goal.returns-then-s-at

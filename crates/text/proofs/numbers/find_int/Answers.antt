@@ -1,6 +1,5 @@
 -- Digits that do not begin with a zero begin with a digit1-9. Assumes nothing.
 use Rattle.text.proofs.numbers.Parts.{no_int, int_zero, int_digits}
-use borrow.Author.Rules.{rules}
 use Rattle.text.proofs.numbers.find_int.Goals as goal
 
 pub returns-then-s-at : goal.returns-then-s-at

@@ -1,6 +1,5 @@
 -- What follows the int decides, where there is one. Assumes nothing.
 use Rattle.text.proofs.numbers.Parts.{float_by_rest, float_no_int}
-use borrow.Author.Rules.{rules}
 use Rattle.text.proofs.numbers.is_float.Goals as goal
 
 pub returns-in-Ends : goal.returns-in-Ends

@@ -1,6 +1,5 @@
 -- Either of frac and exp may be absent, but not both. Assumes nothing.
 use Rattle.text.proofs.numbers.Parts.{frac_and_exp, frac_alone, exp_alone, neither}
-use borrow.Author.Rules.{rules}
 use Rattle.text.proofs.numbers.is_frac_or_exp.Goals as goal
 
 pub returns-in-Ends-find_exp : goal.returns-in-Ends-find_exp

@@ -1,10 +1,6 @@
 -- Digits that are taken one by one leave the text that all of them leave. Assumes nothing.
-use mathlib.Core.Path.{◌≡◌, refl}
-use Prim.Native.Nat.{◌-◌}
-use lib.ListN.{length, drop}
-use Rattle.text.specs.Numbers.{digits}
+use mathlib.Core.Path.{refl}
 use Rattle.text.proofs.numbers.Parts.{digits_stopped, digits_more, digits_over}
-use borrow.Author.Rules.{rules}
 use Rattle.text.proofs.numbers.past_digits.Goals as goal
 
 pub loop-i-init : goal.loop-i-init

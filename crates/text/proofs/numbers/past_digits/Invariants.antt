@@ -1,10 +1,8 @@
 -- Digits that are taken one by one leave the text that all of them leave. Assumes nothing.
-use mathlib.Core.Path.{◌≡◌, refl}
+use mathlib.Core.Path.{◌≡◌}
 use Prim.Native.Nat.{◌-◌}
 use lib.ListN.{length, drop}
 use Rattle.text.specs.Numbers.{digits}
-use Rattle.text.proofs.numbers.Parts.{digits_stopped, digits_more, digits_over}
-use borrow.Author.Rules.{rules}
 use Rattle.text.proofs.numbers.past_digits.Given as goal
 
 abbrev pub invariant-loop-i : goal.invariant-loop-i

@@ -1,6 +1,5 @@
 -- An optional part that is not there takes nothing. Assumes nothing.
 use Rattle.text.proofs.numbers.Parts.{no_sign, sign_minus, sign_plus, sign_absent}
-use borrow.Author.Rules.{rules}
 use Rattle.text.proofs.numbers.past_sign.Goals as goal
 
 pub returns-then-s-at : goal.returns-then-s-at

@@ -1,7 +1,5 @@
 -- Of a sequence that is half read, the number so far and what is still to come decide. Assumes nothing.
-use Prim.Native.Nat.{◌+◌, ◌-◌}
-use Rattle.text.proofs.utf8.Decoding.{Half, read_short, leads_small, half_begun, half_fits, half_refused, half_more, read_whole, read_not_allowed}
-use borrow.Author.Rules.{rules}
+use Rattle.text.proofs.utf8.Decoding.{read_short, leads_small, half_begun, half_fits, half_refused, half_more, read_whole, read_not_allowed}
 use Rattle.text.proofs.utf8.decode_sequence.Goals as goal
 
 pub returns-then-s-at : goal.returns-then-s-at

@@ -1,7 +1,6 @@
 -- Of a sequence that is half read, the number so far and what is still to come decide. Assumes nothing.
 use Prim.Native.Nat.{◌+◌, ◌-◌}
-use Rattle.text.proofs.utf8.Decoding.{Half, read_short, leads_small, half_begun, half_fits, half_refused, half_more, read_whole, read_not_allowed}
-use borrow.Author.Rules.{rules}
+use Rattle.text.proofs.utf8.Decoding.{Half}
 use Rattle.text.proofs.utf8.decode_sequence.Given as goal
 
 abbrev pub invariant-loop-i : goal.invariant-loop-i

@@ -1,6 +1,5 @@
 -- Only an overlong number, a surrogate and a number above the last are not allowed. Assumes nothing.
 use Rattle.text.proofs.utf8.Octets.{overlong, before_surrogates, surrogate, after_surrogates}
-use borrow.Author.Rules.{rules}
 use Rattle.text.proofs.utf8.is_allowed.Goals as goal
 
 pub returns-then-point-least : goal.returns-then-point-least

@@ -1,6 +1,5 @@
 -- Past the end of a text there is no octet, so no continuation octet either. Assumes nothing.
 use Rattle.text.proofs.utf8.Parts.{boundary_end, boundary_looked}
-use borrow.Author.Rules.{rules}
 use Rattle.text.proofs.utf8.is_boundary.Goals as goal
 
 pub returns-then-at-s : goal.returns-then-at-s

@@ -1,6 +1,5 @@
 -- A part of UTF-8 is UTF-8 just if it is empty, or begins and ends between characters. Assumes nothing.
 use Rattle.text.proofs.utf8.Parts.{part-empty, part-inside, part-from}
-use borrow.Author.Rules.{rules}
 use Rattle.text.proofs.utf8.is_part_utf8.Goals as goal
 
 pub returns-then-start-end : goal.returns-then-start-end

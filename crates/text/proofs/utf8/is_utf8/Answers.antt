@@ -1,10 +1,6 @@
 -- A text is UTF-8 just if what is left of it is, behind any number of whole characters. Assumes nothing.
-use mathlib.Core.Path.{◌≡◌, refl}
-use Prim.Native.Nat.{◌-◌}
-use lib.ListN.{length, drop}
-use Rattle.text.specs.Utf8.{is_utf8}
+use mathlib.Core.Path.{refl}
 use Rattle.text.proofs.utf8.Decoding.{utf8_past_nearer, utf8_past, utf8_nearer, utf8_more, utf8_broken, utf8_ended}
-use borrow.Author.Rules.{rules}
 use Rattle.text.proofs.utf8.is_utf8.Goals as goal
 
 pub loop-at-init : goal.loop-at-init

@@ -1,7 +1,6 @@
 -- The shifted mask keeps the lowest bits, and these are a remainder. Assumes nothing.
 use mathlib.Core.Path.{◌∙◌}
 use Rattle.text.proofs.utf8.Octets.{lead_masked}
-use borrow.Author.Rules.{rules}
 use Rattle.text.proofs.utf8.lead_bits.Goals as goal
 
 pub returns : goal.returns

@@ -7,7 +7,6 @@ use lib.ListN.{length}
 use Rattle.tokens.specs.Escape.{all_plain}
 use Rattle.writing.proofs.Blocks.{four_at}
 use Rattle.tokens.proofs.EscapeLaws.{all_plain_lapped}
-use borrow.Author.Rules.{rules}
 use Rattle.tokens.proofs.json.are_few_plain.Goals as goal
 
 pub returns-then-s-ge8 : goal.returns-then-s-ge8

@@ -1,7 +1,6 @@
 -- Four bytes are plain just if each is. Assumes nothing.
 use mathlib.Core.Bool.{and-true}
 use Rattle.tokens.specs.Escape.{all_plain}
-use borrow.Author.Rules.{rules}
 use Rattle.tokens.proofs.json.are_four_plain.Goals as goal
 
 pub returns : goal.returns

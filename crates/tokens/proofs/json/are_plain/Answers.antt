@@ -1,10 +1,5 @@
 -- One byte more is plain or not, whatever is behind it. Assumes nothing.
-use mathlib.Core.Path.{◌≡◌}
-use Prim.Native.Nat.{◌-◌}
-use lib.ListN.{length, take}
-use Rattle.tokens.specs.Escape.{all_plain}
 use Rattle.tokens.proofs.EscapeLaws.{plain_none, plain_more, plain_all}
-use borrow.Author.Rules.{rules}
 use Rattle.tokens.proofs.json.are_plain.Goals as goal
 
 pub loop-i-init : goal.loop-i-init

@@ -3,8 +3,6 @@ use mathlib.Core.Path.{◌≡◌}
 use Prim.Native.Nat.{◌-◌}
 use lib.ListN.{length, take}
 use Rattle.tokens.specs.Escape.{all_plain}
-use Rattle.tokens.proofs.EscapeLaws.{plain_none, plain_more, plain_all}
-use borrow.Author.Rules.{rules}
 use Rattle.tokens.proofs.json.are_plain.Given as goal
 
 abbrev pub invariant-loop-i : goal.invariant-loop-i

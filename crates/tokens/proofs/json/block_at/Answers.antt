@@ -1,9 +1,7 @@
 -- The bytes that are read are those of the text, in their order. Assumes nothing.
 use mathlib.Core.Path.{refl}
-use Prim.Native.Nat.{◌-◌}
 use native.Mathlib.Omega.{arith}
-use Rattle.writing.proofs.Blocks.{Reading, read_more, read_all}
-use borrow.Author.Rules.{rules}
+use Rattle.writing.proofs.Blocks.{read_more, read_all}
 use Rattle.tokens.proofs.json.block_at.Goals as goal
 
 pub loop-i-init : goal.loop-i-init

@@ -1,9 +1,6 @@
 -- The bytes that are read are those of the text, in their order. Assumes nothing.
-use mathlib.Core.Path.{refl}
 use Prim.Native.Nat.{◌-◌}
-use native.Mathlib.Omega.{arith}
-use Rattle.writing.proofs.Blocks.{Reading, read_more, read_all}
-use borrow.Author.Rules.{rules}
+use Rattle.writing.proofs.Blocks.{Reading}
 use Rattle.tokens.proofs.json.block_at.Given as goal
 
 abbrev pub invariant-loop-i : goal.invariant-loop-i

@@ -1,6 +1,5 @@
 use borrow.Author.Tests.{lt-ltb, le-ltb}
 use Rattle.tokens.specs.Escape.{hex_digit}
-use borrow.Author.Rules.{rules}
 use Rattle.tokens.proofs.json.hex_digit.Goals as goal
 
 pub returns-then-n-lt10 : goal.returns-then-n-lt10

@@ -1,7 +1,6 @@
 -- The tests are those of the definition. Assumes nothing.
 use mathlib.Core.Path.{refl}
 use Rattle.tokens.specs.Escape.{is_plain}
-use borrow.Author.Rules.{rules}
 use Rattle.tokens.proofs.json.is_plain.Goals as goal
 
 pub returns : goal.returns

@@ -2,9 +2,7 @@
 use mathlib.Core.Path.{◌≡◌, sym, ◌∙◌}
 use Prim.Native.Nat.{◌+◌, ◌-◌}
 use native.Mathlib.Omega.{arith}
-use Rattle.writing.proofs.WritesLaws.{same}
 use Rattle.tokens.proofs.EscapeLaws.{escaped_all_plain}
-use borrow.Author.Rules.{rules}
 use Rattle.tokens.proofs.json.put_block_escaped.Goals as goal
 
 pub returns-then-text-at-ge16 : goal.returns-then-text-at-ge16

@@ -1,6 +1,5 @@
 -- Of the six characters four are always the same, and two are digits. Assumes nothing.
 use Rattle.writing.proofs.WritesLaws.{cons, «then»}
-use borrow.Author.Rules.{rules}
 use Rattle.tokens.proofs.json.put_code_point_escape.Goals as goal
 
 pub returns : goal.returns

@@ -1,6 +1,5 @@
 -- Four digits and then four are eight. Assumes nothing.
 use Rattle.writing.proofs.WritesLaws.{«then»}
-use borrow.Author.Rules.{rules}
 use Rattle.tokens.proofs.json.put_eight_digits.Goals as goal
 
 pub returns : goal.returns

@@ -2,7 +2,6 @@
 use mathlib.Core.Path.{sym, ◌∙◌}
 use Rattle.writing.proofs.WritesLaws.{cons, same}
 use Rattle.tokens.proofs.EscapeLaws.{escaped_plain, escaped_letter, escaped_control}
-use borrow.Author.Rules.{rules}
 use Rattle.tokens.proofs.json.put_escaped.Goals as goal
 
 pub returns-then-is_plain : goal.returns-then-is_plain

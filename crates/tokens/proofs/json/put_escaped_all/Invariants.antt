@@ -1,12 +1,8 @@
 -- A string is written part by part: what a part is escaped to does not depend on the others. Assumes nothing.
-use mathlib.Core.Path.{refl}
 use Prim.Native.Nat.{◌-◌}
-use native.Mathlib.Omega.{arith}
 use lib.ListN.{length}
-use borrow.Author.Rules.{rules}
 use Rattle.tokens.specs.Escape.{escaped_all}
-use Rattle.tokens.proofs.EscapeLaws.{escaped_all_append}
-use Rattle.writing.proofs.Putting.{Putting, put_begin, put_part, put_rest}
+use Rattle.writing.proofs.Putting.{Putting}
 use Rattle.tokens.proofs.json.put_escaped_all.Given as goal
 
 abbrev pub invariant-loop-i : goal.invariant-loop-i

@@ -1,7 +1,6 @@
 -- Plain bytes are the string as it stands. Assumes nothing.
 use mathlib.Core.Path.{sym, ◌∙◌}
 use Rattle.tokens.proofs.EscapeLaws.{escaped_all_plain}
-use borrow.Author.Rules.{rules}
 use Rattle.tokens.proofs.json.put_few_escaped.Goals as goal
 
 pub returns-then-are_few_plain : goal.returns-then-are_few_plain

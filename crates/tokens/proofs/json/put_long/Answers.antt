@@ -2,7 +2,6 @@
 use mathlib.Core.Path.{sym}
 use Rattle.writing.proofs.WritesLaws.{«then», same}
 use Rattle.tokens.proofs.DecimalLaws.{decimal_last_eight}
-use borrow.Author.Rules.{rules}
 use Rattle.tokens.proofs.json.put_long.Goals as goal
 
 pub returns-then-high-lt100000000 : goal.returns-then-high-lt100000000

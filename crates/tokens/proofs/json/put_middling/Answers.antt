@@ -2,7 +2,6 @@
 use mathlib.Core.Path.{sym}
 use Rattle.writing.proofs.WritesLaws.{«then», same}
 use Rattle.tokens.proofs.DecimalLaws.{decimal_last_four}
-use borrow.Author.Rules.{rules}
 use Rattle.tokens.proofs.json.put_middling.Goals as goal
 
 pub returns : goal.returns

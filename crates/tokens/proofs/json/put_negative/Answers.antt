@@ -1,6 +1,5 @@
 -- A minus sign and then the digits are one text. Assumes nothing.
 use Rattle.writing.proofs.WritesLaws.{cons}
-use borrow.Author.Rules.{rules}
 use Rattle.tokens.proofs.json.put_negative.Goals as goal
 
 pub returns : goal.returns

@@ -3,7 +3,6 @@ use mathlib.Core.Path.{sym}
 use native.Mathlib.Omega.{arith}
 use Rattle.writing.proofs.WritesLaws.{«then», same}
 use Rattle.tokens.proofs.DecimalLaws.{decimal_more, decimal_four}
-use borrow.Author.Rules.{rules}
 use Rattle.tokens.proofs.json.put_short.Goals as goal
 
 pub returns-then-n-lt1000 : goal.returns-then-n-lt1000

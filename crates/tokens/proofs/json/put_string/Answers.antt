@@ -1,7 +1,6 @@
 -- A quotation mark, the bytes and a quotation mark, one behind the other, are one text. Assumes nothing.
 use Rattle.tokens.specs.Escape.{quoted}
 use Rattle.writing.proofs.WritesLaws.{cons, «then»}
-use borrow.Author.Rules.{rules}
 use Rattle.tokens.proofs.json.put_string.Goals as goal
 
 pub returns : goal.returns

@@ -2,7 +2,6 @@
 use mathlib.Core.Path.{sym}
 use Rattle.writing.proofs.WritesLaws.{cons, same}
 use Rattle.tokens.proofs.DecimalLaws.{decimal_small, decimal_two}
-use borrow.Author.Rules.{rules}
 use Rattle.tokens.proofs.json.put_two.Goals as goal
 
 pub returns-then-n-lt10 : goal.returns-then-n-lt10

@@ -1,8 +1,7 @@
 -- Zeros from the position up to the end leave nothing else behind it, and nothing before it is written. Assumes nothing.
-use borrow.Author.Rules.{rules}
 use Prim.Native.Nat.{◌-◌}
 use lib.ListN.{length}
-use Rattle.writing.proofs.Clearing.{Clearing, clear_begin, clear_again, clear_end}
+use Rattle.writing.proofs.Clearing.{Clearing}
 use Rattle.writing.proofs.place.clear.Given as goal
 
 abbrev pub invariant-loop-i : goal.invariant-loop-i

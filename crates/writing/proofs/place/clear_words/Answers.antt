@@ -1,8 +1,5 @@
 -- Zeros from the position up to the end leave nothing else behind it, and nothing before it is written. Assumes nothing.
-use borrow.Author.Rules.{rules}
-use Prim.Native.Nat.{◌-◌}
-use lib.ListN.{length}
-use Rattle.writing.proofs.Clearing.{Clearing, clear_begin, clear_again, clear_end}
+use Rattle.writing.proofs.Clearing.{clear_begin, clear_again, clear_end}
 use Rattle.writing.proofs.place.clear_words.Goals as goal
 
 pub loop-i-init : goal.loop-i-init

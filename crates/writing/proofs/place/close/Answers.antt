@@ -1,9 +1,8 @@
 -- The first comma makes room for the left bracket; a text that does not fit is past the end with its brackets too. Assumes nothing.
-use mathlib.Core.Path.{◌≡◌, sym, ap, ◌∙◌}
-use lib.ListN.{length, set, length-set}
+use mathlib.Core.Path.{◌≡◌, sym, ◌∙◌}
+use lib.ListN.{set}
 use lib.Seq.{set_out}
 use Rattle.writing.proofs.Closing.{closes_none, closes_some}
-use borrow.Author.Rules.{rules}
 use Rattle.writing.proofs.place.close.Goals as goal
 use Rattle.writing.proofs.place.close.Goals.{then-start-text, else-start-text}
 

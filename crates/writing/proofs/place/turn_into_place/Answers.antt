@@ -1,7 +1,6 @@
 -- Of a text that fits, the borders are in order and within the buffer; of one that does not, nothing has to move. Assumes nothing.
 use Rattle.writing.proofs.Rotation.{moves_rotated, moves_not_low, moves_not_far, moves_not_over}
 use native.Mathlib.Omega.{arith}
-use borrow.Author.Rules.{rules}
 use Rattle.writing.proofs.place.turn_into_place.Goals as goal
 
 pub returns-then-a-b : goal.returns-then-a-b

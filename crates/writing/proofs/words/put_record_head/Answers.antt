@@ -1,6 +1,5 @@
 -- Words that are each put where the one before ended are one text. Assumes nothing.
 use Rattle.writing.proofs.WritesLaws.{cons}
-use borrow.Author.Rules.{rules}
 use Rattle.writing.proofs.words.put_record_head.Goals as goal
 
 pub returns : goal.returns

@@ -1,6 +1,5 @@
 -- One element fits just where the position is within the buffer, and one position stands for all past the end. Assumes nothing.
 use Rattle.writing.proofs.WritesLaws.{one, past}
-use borrow.Author.Rules.{rules}
 use Rattle.writing.proofs.write.put.Goals as goal
 
 pub returns-then-at-text : goal.returns-then-at-text

@@ -1,10 +1,8 @@
 -- A run that has one byte more is written with that byte behind it. Assumes nothing.
-use borrow.Author.Rules.{rules}
 use mathlib.Core.Path.{refl}
-use mathlib.Core.List.{List, [], ◌∷◌}
-use Prim.Native.Nat.{ℕ, ◌-◌}
-use lib.ListN.{length}
-use Rattle.writing.proofs.Putting.{Putting, put_begin, put_again, put_end}
+use mathlib.Core.List.{[], ◌∷◌}
+use Prim.Native.Nat.{ℕ}
+use Rattle.writing.proofs.Putting.{put_begin, put_again, put_end}
 use Rattle.writing.proofs.write.put_each.Goals as goal
 
 pub loop-i-init : goal.loop-i-init

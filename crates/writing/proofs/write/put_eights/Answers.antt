@@ -1,6 +1,5 @@
 -- The first half and the last reach into one another, and leave nothing between them. Assumes nothing.
 use Rattle.writing.proofs.WritesLaws.{same, lapped}
-use borrow.Author.Rules.{rules}
 use Rattle.writing.proofs.write.put_eights.Goals as goal
 
 pub returns : goal.returns

@@ -1,13 +1,11 @@
 -- Every byte is put where the last one ended, and none is past the end, since all of them fit. Assumes nothing.
 use mathlib.Core.Path.{refl}
-use mathlib.Core.List.{List, [], ◌∷◌}
-use Prim.Native.Nat.{ℕ, ◌+◌, ◌-◌}
+use mathlib.Core.List.{[], ◌∷◌}
+use Prim.Native.Nat.{ℕ, ◌+◌}
 use native.Mathlib.Omega.{arith}
 use native.Mathlib.Nat.{add-zero}
-use lib.ListN.{length, get_or}
 use Rattle.writing.proofs.WritesLaws.{one_to}
-use Rattle.writing.proofs.Putting.{Putting, put_begin, put_again, put_end}
-use borrow.Author.Rules.{rules}
+use Rattle.writing.proofs.Putting.{put_begin, put_again, put_end}
 use Rattle.writing.proofs.write.put_fitting.Goals as goal
 
 pub loop-i-init : goal.loop-i-init

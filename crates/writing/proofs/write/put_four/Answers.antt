@@ -2,7 +2,6 @@
 use native.Mathlib.Omega.{arith}
 use lib.ListN.{length-set}
 use Rattle.writing.proofs.WritesLaws.{cons, four}
-use borrow.Author.Rules.{rules}
 use Rattle.writing.proofs.write.put_four.Goals as goal
 
 pub bounds-text-at-then-text-at-ge4 : goal.bounds-text-at-then-text-at-ge4

@@ -5,7 +5,6 @@ use native.Mathlib.Omega.{arith}
 use lib.ListN.{length}
 use Rattle.writing.proofs.WritesLaws.{same, lapped}
 use Rattle.writing.proofs.Blocks.{four_at}
-use borrow.Author.Rules.{rules}
 use Rattle.writing.proofs.write.put_fours.Goals as goal
 
 pub returns : goal.returns

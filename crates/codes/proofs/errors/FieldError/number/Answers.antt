@@ -1,5 +1,4 @@
 -- Each constant is the number that the definition has for the error of its name. Assumes nothing.
-use borrow.Author.Rules.{rules}
 use Rattle.codes.proofs.errors.FieldError.number.Goals as goal
 
 pub returns-in-Resolver : goal.returns-in-Resolver
