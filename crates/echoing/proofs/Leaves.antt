@@ -6,7 +6,7 @@ use Prim.Native.Nat.{ℕ, suc, ◌≤◌}
 use native.Mathlib.Omega.{arith}
 use lib.ListN.{length}
 use types.Run.{miss}
-use borrow.Enum.Refused.{Among, opened}
+use borrow.Enum.Refused.{Among, opened, shut}
 use denote.Enum.Declared.{tag_of}
 use Rattle.rows.specs.Layout.{node_width}
 use Rattle.rows.specs.Rows.{rows_of}
@@ -89,7 +89,7 @@ module _ (pool names literals : List ℕ) (room row : ℕ) {text text' : List �
         shown = λ p j e. let here = is e.from in let came = e.is in absurd (let z : ◌≡◌ {A = ℕ} 0 1 = cc in omega arith);
       }
 
-pub ruleset literals = (literal_there, literal_not)
+pub ruleset literals = (literal_there, literal_not, shut)
 
 -- ---- a node
 

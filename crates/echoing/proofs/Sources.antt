@@ -8,7 +8,7 @@ use native.Mathlib.Omega.{arith}
 use borrow.Author.Tests.{eq-eqb, ne_eqb, eqb-true, eqb-false}
 use lib.Dec.{eqb}
 use types.Run.{miss}
-use borrow.Enum.Refused.{Among, opened}
+use borrow.Enum.Refused.{Among, opened, shut}
 use denote.Enum.Declared.{tag_of}
 use Rattle.rows.specs.Schema.{argument_at}
 use Rattle.rows.specs.Document.{given_at}
@@ -332,7 +332,7 @@ module _ (arguments given literals variables : List ℕ) (definitions written : 
             go pool names refs types fields nodes p own (form.Variable x) o q = absurd (miss (0 ∷ 2 ∷ []) 1 tt (opened o))
             go pool names refs types fields nodes p own (form.Shaped s) o q = q
 
-pub ruleset sourcing = (source_unknown, source-default, source-variable, source-literal)
+pub ruleset sourcing = (source_unknown, source-default, source-variable, source-literal, shut)
 
 -- ---- the small ones
 

@@ -5,7 +5,7 @@ use mathlib.Core.List.{List, [], ◌∷◌}
 use mathlib.Core.Option.{Option, none, some}
 use Prim.Native.Nat.{ℕ, zero, suc, ◌+◌, ◌≤◌}
 use types.Run.{miss}
-use borrow.Enum.Refused.{Among, opened}
+use borrow.Enum.Refused.{Among, opened, shut}
 use denote.Enum.Declared.{tag_of}
 use Rattle.rows.specs.Limits.{most_literals, most_fields}
 use Rattle.rows.specs.Schema.{type_ref_at, type_at}
@@ -180,7 +180,7 @@ pub ruleset valuing = (form_shaped, value_null, value_variable, value_shaped)
 
 pub ruleset shaping = (listable, shape_named, shape_items, shape_unknown)
 
-pub ruleset naming = (literals_parted_lem, keyed_within, few_declared, named_undefined, named_other, named-unkeyed, named-object)
+pub ruleset naming = (literals_parted_lem, keyed_within, few_declared, named_undefined, named_other, named-unkeyed, named-object, shut)
 
 pub ruleset itemizing = (items_full, items_begin, items-again, items-stopped, items_ended)
 

@@ -4,7 +4,7 @@ use mathlib.Core.Bool.{Bool, true, false}
 use mathlib.Core.List.{List, [], ◌∷◌}
 use Prim.Native.Nat.{ℕ}
 use types.Run.{miss}
-use borrow.Enum.Refused.{Among, opened}
+use borrow.Enum.Refused.{Among, opened, shut}
 use denote.Enum.Declared.{tag_of}
 use Rattle.rows.specs.Schema.{type_ref_at, type_at}
 use Rattle.rows.specs.Json.{node_at, literal_at}
@@ -67,7 +67,7 @@ module _ (refs types : List ℕ) (ty : ℕ) {t : TypeRef} (e : t ≡ type_ref_at
       unfolding is_container named_container is_input_object
       container-object k = rw (← e, h, is_found_lem (type_named types name) f n, ← d, k)
 
-pub ruleset containing = (container_unnamed, container_undefined, container-other, container-object)
+pub ruleset containing = (container_unnamed, container_undefined, container-other, container-object, shut)
 
 -- ---- the sort of a literal at a type
 
@@ -99,7 +99,7 @@ module _ (refs types literals : List ℕ) (ty row : ℕ) {f : Form} (e : FormAt 
         go (form.Variable name) o = i
         go (form.Shaped s) o = i
 
-pub ruleset sorting = (sort_null, sort_container, sort_own)
+pub ruleset sorting = (sort_null, sort_container, sort_own, shut)
 
 -- ---- the sort of a leaf is that of its value
 

@@ -6,7 +6,7 @@ use mathlib.Core.Option.{some}
 use Prim.Native.Nat.{ℕ, ◌+◌, ◌*◌}
 use native.Mathlib.Omega.{arith}
 use types.Run.{miss}
-use borrow.Enum.Refused.{Among, opened}
+use borrow.Enum.Refused.{Among, opened, shut}
 use denote.Enum.Declared.{tag_of}
 use Rattle.rows.specs.Strings.{text_of}
 use Rattle.rows.specs.Names.{name_text}
@@ -92,9 +92,9 @@ module _ (pool names literals : List ℕ) (row : ℕ) {l : Literal} (e : l ≡ l
       go (literal.Variable name) o = refl
       go literal.Unknown o = refl
 
-pub ruleset noding = (node_string, node_other)
+pub ruleset noding = (node_string, node_other, shut)
 
-pub ruleset literaling = (literal_string, literal_enum, literal_other)
+pub ruleset literaling = (literal_string, literal_enum, literal_other, shut)
 
 -- ---- the bytes are those of the value
 

@@ -23,7 +23,7 @@ pub put_coerced-returns-in-Shaped : goal.put_coerced-returns-in-Shaped
 put_coerced-returns-in-Shaped t c = search (valuing, rules)
 
 pub put_input_field-put_coerced-requires : goal.put_input_field-put_coerced-requires
-put_input_field-put_coerced-requires t c = (search (rules, c.requires), (c.requires.parted, c.requires.count_bound.0))
+put_input_field-put_coerced-requires t c = (search (rules, c.decreases), (c.requires.coercible, c.requires.parted))
 
 pub put_input_field-returns-in-Row : goal.put_input_field-returns-in-Row
 put_input_field-returns-in-Row t c = search (fielding, rules)
@@ -32,7 +32,7 @@ pub put_input_field-returns-in_default-default : goal.put_input_field-returns-in
 put_input_field-returns-in_default-default t c = search (fielding, rules)
 
 pub put_input_field-put_checked_literal-requires : goal.put_input_field-put_checked_literal-requires
-put_input_field-put_checked_literal-requires t c = literals_parted_lem c.requires.parted
+put_input_field-put_checked_literal-requires t c = literals_parted_lem c.requires.coercible
 
 pub put_input_field-returns : goal.put_input_field-returns
 put_input_field-returns t c = search (fielding, rules)
@@ -44,17 +44,13 @@ pub put_input_object-loop-i-init : goal.put_input_object-loop-i-init
 put_input_object-loop-i-init t c = search (opening, rules)
 
 pub put_input_object-put_input_field-written-requires : goal.put_input_object-put_input_field-written-requires
-put_input_object-put_input_field-written-requires t c = (
-  search
-      (rules, c.requires),
-  (c.requires.parted, (c.requires.count_bound, c.requires.count_bound_2.0)),
-)
+put_input_object-put_input_field-written-requires t c = (search (rules, c.decreases), (c.requires.coercible, (c.requires.parted, c.requires.count_bound)))
 
 pub put_input_object-returns-in_default : goal.put_input_object-returns-in_default
 put_input_object-returns-in_default t c = search (opening, rules)
 
 pub put_input_object-overflow_add-i : goal.put_input_object-overflow_add-i
-put_input_object-overflow_add-i t c = search (rules, c.loop-i-test.true, c.well-formed.1.1.1.1.1.1.1.1.1.1.1.1)
+put_input_object-overflow_add-i t c = search (rules, c.loop-i-test.true, c.well_formed.1.1.1.1.1.1.1.1.1.1.1.1)
 
 pub put_input_object-loop-i-preserved : goal.put_input_object-loop-i-preserved
 put_input_object-loop-i-preserved t c = search (opening, rules)
@@ -69,13 +65,13 @@ pub put_items-loop-i-init : goal.put_items-loop-i-init
 put_items-loop-i-init t c = search (itemizing, rules)
 
 pub put_items-put_coerced-written-requires : goal.put_items-put_coerced-written-requires
-put_items-put_coerced-written-requires t c = (search (rules, c.requires), (c.requires.parted, c.requires.count_bound.0))
+put_items-put_coerced-written-requires t c = (search (rules, c.decreases), (c.requires.coercible, c.requires.parted))
 
 pub put_items-returns-in_default : goal.put_items-returns-in_default
 put_items-returns-in_default t c = search (itemizing, rules)
 
 pub put_items-overflow_add-i : goal.put_items-overflow_add-i
-put_items-overflow_add-i t c = search (rules, c.loop-i-test.true, c.well-formed.1.1.1.1.1.1.1.1.1.1.1.1)
+put_items-overflow_add-i t c = search (rules, c.loop-i-test.true, c.well_formed.1.1.1.1.1.1.1.1.1.1.1.1)
 
 pub put_items-loop-i-smaller : goal.put_items-loop-i-smaller
 put_items-loop-i-smaller t c = search (rules, c.loop-i-test.true)
@@ -94,7 +90,7 @@ pub put_named-returns-in_default : goal.put_named-returns-in_default
 put_named-returns-in_default t c = search (naming, rules)
 
 pub put_named-put_checked_literal-requires : goal.put_named-put_checked_literal-requires
-put_named-put_checked_literal-requires t c = literals_parted_lem c.requires.parted
+put_named-put_checked_literal-requires t c = literals_parted_lem c.requires.coercible
 
 pub put_named-returns-in_default-kind : goal.put_named-returns-in_default-kind
 put_named-returns-in_default-kind t c = search (naming, rules)
@@ -103,20 +99,19 @@ pub put_named-returns-in_default-shape : goal.put_named-returns-in_default-shape
 put_named-returns-in_default-shape t c = search (naming, rules)
 
 pub put_named-put_input_object-requires : goal.put_named-put_input_object-requires
-put_named-put_input_object-requires t c = (search (rules, c.requires), (c.requires.parted, (c.requires.form_at.0, (search (keyed_within, c.requires.parted, c.requires.form_at.1), search (few_declared, c.requires.parted)))))
+put_named-put_input_object-requires t c = (search (rules, c.decreases), (c.requires.coercible, (c.requires.parted, (search (keyed_within, c.requires.coercible, c.requires.form_at), search (few_declared, c.requires.coercible)))))
 
 pub put_named-returns : goal.put_named-returns
 put_named-returns t c = search (naming, rules)
 
 pub put_shaped-put_named-requires : goal.put_shaped-put_named-requires
-put_shaped-put_named-requires t c = (search (rules, c.requires), (c.requires.parted, (c.requires.form_at.0, c.requires.form_at.1)))
+put_shaped-put_named-requires t c = (search (rules, c.decreases), (c.requires.coercible, (c.requires.parted, c.requires.form_at)))
 
 pub put_shaped-items_of-requires : goal.put_shaped-items_of-requires
-put_shaped-items_of-requires t c = let p = c.requires
-    in search (listable, p.1.0, p.1.1.1)
+put_shaped-items_of-requires t c = search (listable, c.requires.coercible, c.requires.form_at)
 
 pub put_shaped-put_items-requires : goal.put_shaped-put_items-requires
-put_shaped-put_items-requires t c = (search (rules, c.requires), (c.requires.parted, (c.requires.form_at.0, search rules)))
+put_shaped-put_items-requires t c = (search (rules, c.decreases), (c.requires.coercible, (c.requires.parted, search rules)))
 
 pub put_shaped-returns-in-Named : goal.put_shaped-returns-in-Named
 put_shaped-returns-in-Named t c = search (shaping, rules)
