@@ -14,6 +14,7 @@ use Rattle.rows.specs.Document.{set_at, field_selection}
 use Rattle.rows.specs.declared.layout.Range.{Range}
 use Rattle.rows.specs.declared.document.FieldSelection.{FieldSelection}
 use types.Run.{miss}
+use borrow.Enum.Refused.{opened}
 use Rattle.codes.specs.Outcome.{too_far, too_many_fields, most_open}
 use Rattle.graphql.specs.Run.{Choices, Res, M, stop, failed, done, after, pure, onward, ◌>>=◌}
 use Rattle.graphql.specs.Lookup.{rows_in, selections_of}
@@ -209,7 +210,7 @@ module _ (types members sets selections fragments nodes variables plans : List �
             → Comes selections fragments (rows types members sets selections fragments nodes variables object next a.gone.collected) r list'
             → Comes selections fragments (rows types members sets selections fragments nodes variables object (merged sets selections
             (those fields)) none_yet) r list'
-        go (On g) o h = absurd (miss stops 0 tt o)
+        go (On g) o h = absurd (miss stops 0 tt (opened o))
         go TooFar o h = all too_far h
         go TooManyFields o h = all too_many_fields h
 

@@ -4,7 +4,7 @@ use Rattle.ordering.proofs.SpanLaws.{puts_low, puts_else}
 use Rattle.ordering.proofs.order.put_in_place.Goals as goal
 
 pub returns-then-group-low : goal.returns-then-group-low
-returns-then-group-low c = puts_low c.turn.ensures c.span.ensures c.if-group-low.true
+returns-then-group-low c = puts_low c.turn.ensures c.span-own.ensures c.if-group-low.true
 
 pub returns : goal.returns
-returns c = puts_else c.turn.ensures c.span.ensures c.if-group-low.false
+returns c = puts_else c.turn.ensures c.span-own.ensures c.if-group-low.false

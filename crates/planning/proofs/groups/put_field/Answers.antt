@@ -8,11 +8,11 @@ pub overflow_cast-selection : goal.overflow_cast-selection
 overflow_cast-selection c = search (word_fits, rules)
 
 pub returns-then-group-groups : goal.returns-then-group-groups
-returns-then-group-groups c = field-old c.before.args.i c.before.requires.0 c.field-selection.ensures c.group_with-group.ensures c.if-group-groups.true
+returns-then-group-groups c = field-old c.args.i c.requires.0 c.field_selection-field.ensures c.group_with-group.ensures c.if-group-groups.true
 
 pub put_group-requires : goal.put_group-requires
-put_group-requires c = record { referred = (c.before.requires.0.fitting.referred, c.before.requires.0.fitting.defined c.before.args.object); row_in_bounds = (omega (arith, c.before.requires.0.room, c.before.requires.1), name_fits c.before.args.i c.before.requires.0 c.field-selection.ensures, key_fits c.before.args.i c.before.requires.0 c.field-selection.ensures) }
+put_group-requires c = record { referred = (c.requires.0.fitting.referred, c.requires.0.fitting.defined c.args.object); row_in_bounds = (omega (arith, c.requires.0.room, c.requires.1), name_fits c.args.i c.requires.0 c.field_selection-field.ensures, key_fits c.args.i c.requires.0 c.field_selection-field.ensures) }
 
 pub returns : goal.returns
-returns c = field-new c.before.args.i c.before.requires.0 c.field-selection.ensures c.group_with-group.ensures c.if-group-groups.false
+returns c = field-new c.args.i c.requires.0 c.field_selection-field.ensures c.group_with-group.ensures c.if-group-groups.false
     c.put_group.ensures

@@ -8,13 +8,13 @@ pub overflow_cast-hint : goal.overflow_cast-hint
 overflow_cast-hint c = omega (arith, c.type_inv.hints c.hint_at-slot.result)
 
 pub returns-then-is_plan_for : goal.returns-then-is_plan_for
-returns-then-is_plan_for c = plans_found c.before.requires.0 c.is_plan_for.ensures c.if-is_plan_for.true
+returns-then-is_plan_for c = plans_found c.requires.0 c.is_plan_for.ensures c.if-is_plan_for.true
 
 pub returns-then-plans-top : goal.returns-then-plans-top
-returns-then-plans-top c = plans_none c.before.requires.0
+returns-then-plans-top c = plans_none c.requires.0
 
 pub overflow_cast-hints : goal.overflow_cast-hints
-overflow_cast-hints c = search (made_fits, c.before.requires.0, c.make_plan-planned.ensures, rules)
+overflow_cast-hints c = search (made_fits, c.requires.0, c.make_plan-planned.ensures, rules)
 
 pub returns : goal.returns
-returns c = search (plans_as, c.before.requires.0, c.make_plan-planned.ensures, rules)
+returns c = search (plans_as, c.requires.0, c.make_plan-planned.ensures, rules)
