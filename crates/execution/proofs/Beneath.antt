@@ -5,8 +5,6 @@ use mathlib.Core.List.{List, [], ◌∷◌}
 use Prim.Native.Nat.{ℕ, suc, ◌+◌, ◌*◌, ◌≤◌, ◌<◌}
 use native.Mathlib.Omega.{arith}
 use lib.ListN.{length, drop}
-use borrow.Enum.Refused.{Among}
-use denote.Enum.Declared.{tag_of}
 use Rattle.rows.specs.Limits.{most_types}
 use Rattle.rows.specs.declared.layout.Range.{Range}
 use Rattle.codes.specs.Outcome.{too_far, too_many_fields}
@@ -16,7 +14,6 @@ use Rattle.graphql.specs.Complete.{merge_selection_sets, execute_selection_set}
 use Rattle.planning.specs.Plans.{members_of, group_count, most_words, Kept, Standing, Lent, Planning, Made, Stopped, Plannable, PlansFor, Lookable, Storable, beneath_group, PlansAlone}
 use Rattle.planning.specs.declared.plan.Planned.{Planned}
 use Rattle.planning.specs.declared.plan.Planned.TheVariants as planned
-use Rattle.planning.specs.contracts.plan.Planned.{the_type as planneds}
 use Rattle.walking.specs.Gives.{as_data, Gives}
 use Rattle.walking.specs.Paths.{path_of}
 use Rattle.walking.specs.declared.path.Path.{Path}
@@ -152,14 +149,14 @@ module _ {Q : Request} {plans spans hints : List ℕ} {path : Path} {s : State} 
     })
 
     -- it is one of the two ends that stop
-    pub object_stops : {cs text errors : List ℕ} {code : ℕ} {d : Done} → Among (2 ∷ 3 ∷ []) (tag_of planneds p) → code ≡ stop_code p
+    pub object_stops : {cs text errors : List ℕ} {code : ℕ} {d : Done} → ((own top : ℕ) → p ≡ planned.At own top → ⊥) → (p ≡ planned.NoRoom → ⊥) → code ≡ stop_code p
         → d ≡ record { what = Fails (Stop code); state = s }
         → ObjectDone Q cs text errors plans spans hints path s plan group object rows d text errors plans1 spans hints1
-    object_stops {cs} {text} {errors} {d = d} n c e = go p refl
+    object_stops {cs} {text} {errors} {d = d} a n c e = go p refl
       where
         go : (x : Planned) → p ≡ x → ObjectDone Q cs text errors plans spans hints path s plan group object rows d text errors plans1 spans hints1
-        go (planned.At own top) q = absurd (⊎_elim (λ h. omega arith) (λ h. omega arith) (rw q at n))
-        go planned.NoRoom q = absurd (⊎_elim (λ h. omega arith) (λ h. omega arith) (rw q at n))
+        go (planned.At own top) q = absurd (a own top q)
+        go planned.NoRoom q = absurd (n q)
         go planned.TooFar q = object_stopped (rw q at came) (rw (c, q) at e)
         go planned.TooManyFields q = object_stopped (rw q at came) (rw (c, q) at e)
 
@@ -233,13 +230,13 @@ module _ {Q : Request} {plans spans hints : List ℕ} {path : Path} {s : State} 
     })
 
     -- it is not that there is no room
-    pub apart_stops : {cs text errors : List ℕ} {code : ℕ} {d : Done} → Among (1 ∷ 2 ∷ 3 ∷ []) (tag_of planneds p) → code ≡ stop_code p
+    pub apart_stops : {cs text errors : List ℕ} {code : ℕ} {d : Done} → ((own top : ℕ) → p ≡ planned.At own top → ⊥) → code ≡ stop_code p
         → d ≡ record { what = Fails (Stop code); state = s }
         → ObjectDone Q cs text errors plans spans hints path s plan group object rows d text errors plans spans hints
-    apart_stops {cs} {text} {errors} {d = d} n c e = go p refl
+    apart_stops {cs} {text} {errors} {d = d} a c e = go p refl
       where
         go : (x : Planned) → p ≡ x → ObjectDone Q cs text errors plans spans hints path s plan group object rows d text errors plans spans hints
-        go (planned.At own top) q = absurd (⊎_elim (λ h. omega arith) (λ k. ⊎_elim (λ h. omega arith) (λ h. omega arith) k) (rw q at n))
+        go (planned.At own top) q = absurd (a own top q)
         go planned.NoRoom q = absurd (f.roomy q)
         go planned.TooFar q = apart_stopped (rw q at alone) (rw (c, q) at e)
         go planned.TooManyFields q = apart_stopped (rw q at alone) (rw (c, q) at e)

@@ -7,7 +7,7 @@ use native.Mathlib.Omega.{arith}
 use borrow.Author.Tests.{le-leb, lt-leb}
 use lib.ListN.{length, take, replicate}
 use lib.Seq.{take_at, length-take-le}
-use borrow.Enum.Refused.{Among}
+use borrow.Enum.Refused.{Among, opened}
 use denote.Enum.Declared.{tag_of}
 use Rattle.writing.specs.Wrote.{Wrote, Writes, zeroed_from}
 use Rattle.tokens.specs.Literal.{null_name}
@@ -131,7 +131,7 @@ failed_of : (x : Res Data) {f : Failure} → Among (0 ∷ 1 ∷ []) (tag_of fail
 failed_of (stop n w) {f} k e = absurd (not_stop (cc))
   where
     not_stop : f ≡ Stop n → ⊥
-    not_stop z = ⊎_elim (λ h. omega arith) (λ h. omega arith) (rw z at k)
+    not_stop z = ⊎_elim (λ h. omega arith) (λ h. omega arith) (opened (rw z at k))
 failed_of (failed r w c) k e = (r, w, c, refl)
 failed_of (done v w c) k e = absurd (let z : ◌≡◌ {A = ℕ} 0 1 = cc in omega arith)
 

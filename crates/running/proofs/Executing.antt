@@ -5,7 +5,7 @@ use mathlib.Core.Bool.{true}
 use mathlib.Core.List.{List, [], ◌∷◌}
 use Prim.Native.Nat.{ℕ, ◌+◌, ◌≤◌}
 use native.Mathlib.Omega.{arith}
-use borrow.Enum.Refused.{Among}
+use borrow.Enum.Refused.{Among, opened}
 use denote.Enum.Declared.{tag_of}
 use lib.ListN.{replicate, length-replicate}
 use Rattle.rows.specs.Layout.{type_width}
@@ -60,7 +60,7 @@ no_rows (answer.Leaf node) o = refl
 no_rows (answer.List rows) o = refl
 no_rows (answer.Object n rows) o =
     absurd (⊎_elim (λ h. omega arith) (λ u. ⊎_elim (λ h. omega arith) (λ v. ⊎_elim (λ h. omega arith) (λ w. ⊎_elim (λ h. omega arith)
-    (λ x. ⊎_elim (λ h. omega arith) (λ h. omega arith) x) w) v) u) o)
+    (λ x. ⊎_elim (λ h. omega arith) (λ h. omega arith) x) w) v) u) (opened o))
 no_rows (answer.Echo n) o = refl
 no_rows answer.Unknown o = refl
 
@@ -118,7 +118,7 @@ module _ (T : Tables) where
       → PlansOperation store r store' → d ≡ stopped_by r → Gives as_data cs text errors at_start (execute (record { tables = T }) cs) d text errors
   unfolding halt
   stopped_before cs text errors (planned.At plan top) o p e =
-      absurd (⊎_elim (λ h. omega arith) (λ u. ⊎_elim (λ h. omega arith) (λ h. omega arith) u) o)
+      absurd (⊎_elim (λ h. omega arith) (λ u. ⊎_elim (λ h. omega arith) (λ h. omega arith) u) (opened o))
   stopped_before cs text errors planned.NoRoom o p e = absurd (p.roomy refl)
   stopped_before cs text errors planned.TooFar o p e = rw (e, stops cs (p.comes P itself)) (stopped_gives too_far)
   stopped_before cs text errors planned.TooManyFields o p e = rw (e, stops cs (p.comes P itself)) (stopped_gives too_many_fields)
