@@ -25,7 +25,7 @@ pub returns-then-text-at-eq10 : goal.returns-then-text-at-eq10
 returns-then-text-at-eq10 c = (search rules, search rules, record { inside = c.loop-at.invariant.2; ended = λ h. c.if-text-at-eq10.true })
 
 pub loop-at-preserved : goal.loop-at-preserved
-loop-at-preserved c =     (search rules, search rules, further c.args.text.now _ _ c.loop-at.invariant.2 c.if-text-at-eq10.false)
+loop-at-preserved c = (search rules, search rules, further c.args.text.now _ _ c.loop-at.invariant.2 c.if-text-at-eq10.false)
 
 pub returns : goal.returns
 returns c = (search rules, search rules, record { inside = c.loop-at.invariant.2; ended = λ h. absurd (omega arith) })
