@@ -2,13 +2,12 @@
 ghost use Rattle.std.specs.Prelude.{◌≤◌};
 
 use codes::report::Reported;
-use libc::STDOUT_FILENO;
 use table_file::layout::{Pool, Sizes, Words};
 use table_file::{layout, pool_bytes, table};
 use verdict::answers::print_run;
-use verdict::file;
 use verdict::file::Room;
 use verdict::runs::{run_by_choices, run_in_order};
+use verdict::{file, say};
 use writing::write::put_all;
 
 const ROOM: usize = 64;
@@ -29,6 +28,7 @@ fn run(
 }
 
 fn answer_run(
+    out: &impl Print,
     pool: &Pool,
     words: &Words,
     sizes: Sizes,
@@ -39,6 +39,7 @@ fn answer_run(
     let reported = run(pool, words, sizes, choices, text, errors);
     let names = table(words, sizes, layout::NAMES);
     print_run(
+        out,
         pool_bytes(pool, sizes),
         names,
         text,
@@ -71,7 +72,7 @@ fn put_tables(text: &mut Room, shape: &[u8], own: &[u8]) -> usize {
     put_all(text, both, own)
 }
 
-fn answer(name: &[u8], shape: &[u8], own: &[u8], choices: &[u32], room: usize)
+fn answer(out: &impl Print, name: &[u8], shape: &[u8], own: &[u8], choices: &[u32], room: usize)
     requires { room ≤ 64 }
 {
     let mut text = file::new_text();
@@ -79,12 +80,13 @@ fn answer(name: &[u8], shape: &[u8], own: &[u8], choices: &[u32], room: usize)
     let mut pool = layout::new_pool();
     let mut words = layout::new_words();
     let contents = table_file::read(file::bytes(&text, length), &mut pool, &mut words);
-    io::write_all(STDOUT_FILENO, name);
-    io::write_all(STDOUT_FILENO, b" ");
+    say::words(out, name);
+    say::words(out, b" ");
     let sizes = contents.sizes;
     let mut data = [0u8; ROOM];
     let mut errors = [0u32; ROOM];
     answer_run(
+        out,
         &pool,
         &words,
         sizes,
@@ -92,14 +94,15 @@ fn answer(name: &[u8], shape: &[u8], own: &[u8], choices: &[u32], room: usize)
         &mut data[0..room],
         &mut errors,
     );
-    io::write_all(STDOUT_FILENO, b"\n");
+    say::words(out, b"\n");
 }
 
 // `{f}` with `f: T`. Its own text begins with T, which is row 4, and has the answer to f.
-fn one(name: &[u8], room: usize, own: &[u8])
+fn one(out: &impl Print, name: &[u8], room: usize, own: &[u8])
     requires { room ≤ 64 }
 {
     answer(
+        out,
         name,
         b"[types]\n'Query object 0 1 0 0\n\
         [fields]\n'f 4 none 100 0 0\n\
@@ -114,8 +117,9 @@ fn one(name: &[u8], room: usize, own: &[u8])
 }
 
 // `[Int]`, 42 then error.
-fn a() {
+fn a(out: &impl Print) {
     one(
+        out,
         b"A",
         ROOM,
         b"list nullable 0\n\
@@ -125,8 +129,9 @@ fn a() {
 }
 
 // `[Int]`, 42, skip, `"x"`.
-fn b() {
+fn b(out: &impl Print) {
     one(
+        out,
         b"B",
         ROOM,
         b"list nullable 0\n\
@@ -136,8 +141,9 @@ fn b() {
 }
 
 // `[Int!]!`, 1 then null.
-fn c() {
+fn c(out: &impl Print) {
     one(
+        out,
         b"C",
         ROOM,
         b"list non-null 1\n\
@@ -147,8 +153,9 @@ fn c() {
 }
 
 // `[Int!]`, 1 then null.
-fn d() {
+fn d(out: &impl Print) {
     one(
+        out,
         b"D",
         ROOM,
         b"list nullable 1\n\
@@ -158,8 +165,9 @@ fn d() {
 }
 
 // Int, 2147483648.
-fn e() {
+fn e(out: &impl Print) {
     one(
+        out,
         b"E",
         ROOM,
         b"named nullable 'Int\n[nodes]\ninteger 2147483648L 0 0\n[answers]\nleaf 'f 0 0 0\n",
@@ -167,8 +175,9 @@ fn e() {
 }
 
 // Int, 9223372036854775808.
-fn f() {
+fn f(out: &impl Print) {
     one(
+        out,
         b"F",
         ROOM,
         b"named nullable 'Int\n[nodes]\ninteger 9223372036854775808L 0 0\n[answers]\nleaf 'f 0 0 0\n",
@@ -176,8 +185,9 @@ fn f() {
 }
 
 // Float, integer 1.
-fn g() {
+fn g(out: &impl Print) {
     one(
+        out,
         b"G",
         ROOM,
         b"named nullable 'Float\n[nodes]\ninteger 1L 0 0\n[answers]\nleaf 'f 0 0 0\n",
@@ -185,8 +195,9 @@ fn g() {
 }
 
 // `{x:f @skip(if:$v) y:g x:f}`, v absent, f 1, g 2, both Int.
-fn h() {
+fn h(out: &impl Print) {
     answer(
+        out,
         b"H",
         b"[types]\n'Query object 0 2 0 0\n\
         [fields]\n'f 0 none 100 0 0\n'g 0 none 101 0 0\n",
@@ -203,8 +214,9 @@ fn h() {
 }
 
 // `{f @skip(if:true) @include(if:true)}`.
-fn i() {
+fn i(out: &impl Print) {
     answer(
+        out,
         b"I",
         b"[types]\n'Query object 0 1 0 0\n\
         [fields]\n'f 0 none 100 0 0\n",
@@ -217,8 +229,9 @@ fn i() {
 }
 
 // `{a b}`, `Int!`, both errors.
-fn both_errors(name: &[u8], choices: &[u32]) {
+fn both_errors(out: &impl Print, name: &[u8], choices: &[u32]) {
     answer(
+        out,
         name,
         b"[types]\n'Query object 0 2 0 0\n\
         [fields]\n'a 1 none 100 0 0\n'b 1 none 101 0 0\n",
@@ -233,8 +246,9 @@ fn both_errors(name: &[u8], choices: &[u32]) {
 }
 
 // Int 1, buffer of 1 byte.
-fn l() {
+fn l(out: &impl Print) {
     one(
+        out,
         b"L",
         1,
         b"named nullable 'Int\n[nodes]\ninteger 1L 0 0\n[answers]\nleaf 'f 0 0 0\n",
@@ -242,8 +256,9 @@ fn l() {
 }
 
 // `[[Int]]` argument `[1,2]` echoed as a custom scalar.
-fn m() {
+fn m(out: &impl Print) {
     answer(
+        out,
         b"M",
         b"list nullable 3 # 4\n\
         [types]\n'Query object 0 1 0 0\n\
@@ -260,27 +275,28 @@ fn m() {
 }
 
 // `[Int]`, leaf 5.
-fn n() {
+fn n(out: &impl Print) {
     one(
+        out,
         b"N",
         ROOM,
         b"list nullable 0\n[nodes]\ninteger 5L 0 0\n[answers]\nleaf 'f 0 0 0\n",
     );
 }
 
-fn main() {
-    a();
-    b();
-    c();
-    d();
-    e();
-    f();
-    g();
-    h();
-    i();
-    both_errors(b"J", &[]);
-    both_errors(b"K", &[1]);
-    l();
-    m();
-    n();
+fn main(rt: HostRuntime) {
+    a(&rt);
+    b(&rt);
+    c(&rt);
+    d(&rt);
+    e(&rt);
+    f(&rt);
+    g(&rt);
+    h(&rt);
+    i(&rt);
+    both_errors(&rt, b"J", &[]);
+    both_errors(&rt, b"K", &[1]);
+    l(&rt);
+    m(&rt);
+    n(&rt);
 }

@@ -22,27 +22,43 @@ fn is_asked(subject: Subject, is_any_broken: bool) -> bool {
 }
 
 // The line that gives a row.
-fn print_line(text: &[u8], table: usize, row: u32, pool: &mut Pool, words: &mut Words)
+fn print_line(
+    out: &impl Print,
+    text: &[u8],
+    table: usize,
+    row: u32,
+    pool: &mut Pool,
+    words: &mut Words,
+)
     requires { table < 16 }
 {
     let line = line_of_row(text, pool, words, table, row);
-    say::number_behind(b"line ", line as u64);
-    say::words(b", ");
+    say::number_behind(out, b"line ", line as u64);
+    say::words(out, b", ");
 }
 
 // The row of a broken rule: its line, where it is there, its table and its number.
-fn print_row(text: &[u8], table: usize, row: u32, pool: &mut Pool, words: &mut Words, sizes: Sizes)
+fn print_row(
+    out: &impl Print,
+    text: &[u8],
+    table: usize,
+    row: u32,
+    pool: &mut Pool,
+    words: &mut Words,
+    sizes: Sizes,
+)
     requires { table < 16 }
 {
     if row_start(table, row) < sizes[table] {
-        print_line(text, table, row, pool, words);
+        print_line(out, text, table, row, pool, words);
     }
-    print_table(table);
-    say::number_behind(b" row ", row as u64);
+    print_table(out, table);
+    say::number_behind(out, b" row ", row as u64);
 }
 
 // What a rule is broken at.
 fn print_where(
+    out: &impl Print,
     rule: Rule,
     row: u32,
     text: &[u8],
@@ -52,16 +68,17 @@ fn print_where(
 ) {
     let table = table_of(rule);
     match about(rule) {
-        Subject::Table => print_table(table),
+        Subject::Table => print_table(out, table),
         Subject::Numbers => {
-            print_row(text, table, row, pool, words, sizes);
-            print_wrong_words(rule, table, row, pool, words, sizes);
+            print_row(out, text, table, row, pool, words, sizes);
+            print_wrong_words(out, rule, table, row, pool, words, sizes);
         }
-        _ => print_row(text, table, row, pool, words, sizes),
+        _ => print_row(out, text, table, row, pool, words, sizes),
     }
 }
 
 fn print_broken(
+    out: &impl Print,
     rule: Rule,
     row: u32,
     text: &[u8],
@@ -69,15 +86,16 @@ fn print_broken(
     words: &mut Words,
     sizes: Sizes,
 ) {
-    say::words(b"  ");
-    print_where(rule, row, text, pool, words, sizes);
-    say::words(b": ");
-    print_rule(rule);
-    say::words(b"\n");
+    say::words(out, b"  ");
+    print_where(out, rule, row, text, pool, words, sizes);
+    say::words(out, b": ");
+    print_rule(out, rule);
+    say::words(out, b"\n");
 }
 
 // Prints the rule if it is broken, and answers whether it is.
 fn is_printed(
+    out: &impl Print,
     rule: Rule,
     is_any_broken: bool,
     text: &[u8],
@@ -90,7 +108,7 @@ fn is_printed(
     }
     match first_broken(rule, pool, words, sizes) {
         Broken::At(row) => {
-            print_broken(rule, row, text, pool, words, sizes);
+            print_broken(out, rule, row, text, pool, words, sizes);
             true
         }
         Broken::Nowhere => false,
@@ -98,17 +116,31 @@ fn is_printed(
 }
 
 // What is left where every rule of a row holds is the one that follows a default into its parts.
-pub(crate) fn print_broken_rules(text: &[u8], pool: &mut Pool, words: &mut Words, sizes: Sizes) {
+pub(crate) fn print_broken_rules(
+    out: &impl Print,
+    text: &[u8],
+    pool: &mut Pool,
+    words: &mut Words,
+    sizes: Sizes,
+) {
     let count = rule_count();
     let mut is_any_broken = false;
     let mut number: u32 = 0;
     while number < count {
-        if is_printed(rule_at(number), is_any_broken, text, pool, words, sizes) {
+        if is_printed(
+            out,
+            rule_at(number),
+            is_any_broken,
+            text,
+            pool,
+            words,
+            sizes,
+        ) {
             is_any_broken = true;
         }
         number += 1;
     }
     if !is_any_broken {
-        say::words(b"  literals: a default contains a variable\n");
+        say::words(out, b"  literals: a default contains a variable\n");
     }
 }

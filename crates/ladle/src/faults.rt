@@ -6,24 +6,27 @@ use verdict::lists::line;
 use verdict::{file, say};
 
 // What kept a file's text from being read.
-pub(crate) fn print_file_fault(why: file::Fault) {
+pub(crate) fn print_file_fault(out: &impl Print, why: file::Fault) {
     match why {
         file::Fault::Fine => {}
-        file::Fault::CannotBeOpened => say::words(b"cannot be opened"),
-        file::Fault::CannotBeRead => say::words(b"cannot be read"),
-        file::Fault::TooLarge => say::words(b"is larger than the 1,048,576 bytes that ladle reads"),
+        file::Fault::CannotBeOpened => say::words(out, b"cannot be opened"),
+        file::Fault::CannotBeRead => say::words(out, b"cannot be read"),
+        file::Fault::TooLarge => say::words(
+            out,
+            b"is larger than the 1,048,576 bytes that ladle reads",
+        ),
     }
 }
 
-fn print_row_fault(table: usize, count: usize) {
-    say::number(count as u64);
+fn print_row_fault(out: &impl Print, table: usize, count: usize) {
+    say::number(out, count as u64);
     if count == 1 {
-        say::words(b" word, a row of ");
+        say::words(out, b" word, a row of ");
     } else {
-        say::words(b" words, a row of ");
+        say::words(out, b" words, a row of ");
     }
-    print_table(table);
-    say::number_behind(b" has ", row_width(table) as u64);
+    print_table(out, table);
+    say::number_behind(out, b" has ", row_width(table) as u64);
 }
 
 // The place of its sentence below.
@@ -47,12 +50,12 @@ fn sentence(why: Fault) -> usize {
     }
 }
 
-fn print_why(why: Fault) {
+fn print_why(out: &impl Print, why: Fault) {
     if let Fault::NoWholeRow(table, count) = why {
-        print_row_fault(table, count);
+        print_row_fault(out, table, count);
         return;
     }
-    say::words(line(
+    let sentence = line(
         b"a row before the first table, as [names]\n\
         no such table\n\
         nothing but a comment may follow a table's name\n\
@@ -68,7 +71,8 @@ fn print_why(why: Fault) {
         more bytes of strings than ladle holds\n\
         [root] has one number",
         sentence(why),
-    ));
+    );
+    say::words(out, sentence);
 }
 
 // Whether one token is what is wrong.
@@ -86,10 +90,10 @@ fn is_about_token(why: Fault) -> bool {
 }
 
 // Why a text is no table file.
-pub(crate) fn print_fault(why: Fault, token: &[u8]) {
-    print_why(why);
+pub(crate) fn print_fault(out: &impl Print, why: Fault, token: &[u8]) {
+    print_why(out, why);
     if is_about_token(why) {
-        say::words(b": ");
-        say::words(token);
+        say::words(out, b": ");
+        say::words(out, token);
     }
 }

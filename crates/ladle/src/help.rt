@@ -1,8 +1,9 @@
 // What ladle does, in a page. The script ./ladle prints the same lines from here where the program is not built yet.
 use verdict::say;
 
-pub(crate) fn print() {
+pub(crate) fn print(out: &impl Print) {
     say::words(
+        out,
         b"usage: ladle check FILE..\n\
         \x20      ladle depth FILE..\n\
         \x20      ladle run [--raw] [--order LIST] FILE..\n\

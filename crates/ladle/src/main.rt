@@ -12,19 +12,29 @@ mod table_files;
 
 use arguments::{Word, begins_with_verb, file_count, is_file, word_at};
 use rows::limits::MOST_CHOICES;
+use std::rt::{Env, Files};
 use table_files::Question;
 use telling::choices::{Order, read, read_choices};
 use telling::records::first_words;
+use verdict::arguments::{PATH_BYTES, count as argument_count, put};
 use verdict::say;
 
-fn answer_file(number: usize, is_one_of_several: bool, question: Question, choices: &[u32]) {
-    let mut path = io::buffer();
-    let n = os::arg(number, &mut path);
-    if os::errno() != 0 {
-        say::words(b"a file's name is longer than a path may be\n");
+// The most bytes of an argument that lists choices.
+const LIST_BYTES: usize = 65536;
+
+fn answer_file(
+    rt: &(impl Print + Env + Files),
+    number: usize,
+    is_one_of_several: bool,
+    question: Question,
+    choices: &[u32],
+) {
+    let mut path = [0u8; PATH_BYTES];
+    let Ok(n) = rt.arg(number, &mut path) else {
+        say::words(rt, b"a file's name is longer than a path may be\n");
         return;
-    }
-    table_files::answer(question, &path[..n], is_one_of_several, choices);
+    };
+    table_files::answer(rt, question, &path[..n], is_one_of_several, choices);
 }
 
 fn next_question(word: Word, question: Question) -> Question {
@@ -38,37 +48,52 @@ fn next_question(word: Word, question: Question) -> Question {
 }
 
 // The choices that an argument lists.
-fn order_at(number: usize, choices: &mut [u32]) -> Order {
-    let mut list = io::large_buffer();
-    let n = os::arg(number, &mut list);
+fn order_at(env: &impl Env, number: usize, choices: &mut [u32]) -> Order {
+    let mut list = [0u8; LIST_BYTES];
+    let n = put(env, number, &mut list);
     read_choices(&list[..n], choices)
 }
 
 // A run begins with no choices, and keeps those that it was given.
-fn next_order(word: Word, number: usize, given: usize, choices: &mut [u32]) -> Order {
+fn next_order(
+    env: &impl Env,
+    word: Word,
+    number: usize,
+    given: usize,
+    choices: &mut [u32],
+) -> Order {
     match word {
         Word::Run => read(0),
-        Word::Choices => order_at(number, choices),
+        Word::Choices => order_at(env, number, choices),
         _ => read(given),
     }
 }
 
 // Takes the arguments one by one.
-fn answer_arguments(count: usize, is_one_of_several: bool, choices: &mut [u32]) {
+fn answer_arguments(
+    rt: &(impl Print + Env + Files),
+    count: usize,
+    is_one_of_several: bool,
+    choices: &mut [u32],
+) {
     let mut given: usize = 0;
     let mut question = Question::Check;
     let mut number: usize = 1;
     while number < count {
-        let word = word_at(number);
+        let word = word_at(rt, number);
         question = next_question(word, question);
-        let order = next_order(word, number, given, choices);
+        let order = next_order(rt, word, number, given, choices);
         if !order.is_read {
-            say::words(b"--order takes up to 4,096 numbers with commas between them, as 3,1,2\n");
+            say::words(
+                rt,
+                b"--order takes up to 4,096 numbers with commas between them, as 3,1,2\n",
+            );
             return;
         }
         given = order.count;
         if is_file(word) {
             answer_file(
+                rt,
                 number,
                 is_one_of_several,
                 question,
@@ -79,17 +104,17 @@ fn answer_arguments(count: usize, is_one_of_several: bool, choices: &mut [u32]) 
     }
 }
 
-fn main() {
-    let count = os::arg_count();
-    let files = file_count(count);
+fn main(rt: HostRuntime) {
+    let count = argument_count(&rt);
+    let files = file_count(&rt, count);
     if files == 0 {
-        help::print();
+        help::print(&rt);
         return;
     }
-    if !begins_with_verb() {
-        help::print();
+    if !begins_with_verb(&rt) {
+        help::print(&rt);
         return;
     }
     let mut choices = [0u32; MOST_CHOICES];
-    answer_arguments(count, files > 1, &mut choices);
+    answer_arguments(&rt, count, files > 1, &mut choices);
 }

@@ -84,13 +84,14 @@ fn is_wrong(
     is_mended
 }
 
-fn print_word(column: usize, word: u32) {
-    say::number_behind(b", word ", column as u64);
-    say::number_behind(b" is ", word as u64);
+fn print_word(out: &impl Print, column: usize, word: u32) {
+    say::number_behind(out, b", word ", column as u64);
+    say::number_behind(out, b" is ", word as u64);
 }
 
 // Prints each word of a row for which another number would mend it, where the rule is broken.
 pub(crate) fn print_wrong_words(
+    out: &impl Print,
     rule: Rule,
     table: usize,
     row: u32,
@@ -105,7 +106,7 @@ pub(crate) fn print_wrong_words(
     while column < width {
         if is_wrong(rule, table, row, column, pool, words, sizes) {
             let place = place_of(table, row, column);
-            print_word(column, words[place]);
+            print_word(out, column, words[place]);
         }
         column += 1;
     }

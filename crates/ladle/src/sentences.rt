@@ -4,11 +4,12 @@ use tables::rule::{DocumentRule, Rule, SchemaRule, SizeRule, ValueRule};
 use verdict::lists::line;
 use verdict::say;
 
-pub(crate) fn print_table(table: usize) {
-    say::words(line(
+pub(crate) fn print_table(out: &impl Print, table: usize) {
+    let sentence = line(
         b"pool\nnames\ntype_refs\ntypes\nmembers\nfields\narguments\nsets\nselections\ngiven\nfragments\nnodes\nliterals\nvariables\nanswers\nroot",
         table,
-    ));
+    );
+    say::words(out, sentence);
 }
 
 // The least rows that a table has.
@@ -41,13 +42,13 @@ fn most(rule: SizeRule) -> usize {
     }
 }
 
-fn print_size_rule(rule: SizeRule) {
-    say::number_behind(b"there are ", least(rule) as u64);
-    say::number_behind(b" to ", most(rule) as u64);
+fn print_size_rule(out: &impl Print, rule: SizeRule) {
+    say::number_behind(out, b"there are ", least(rule) as u64);
+    say::number_behind(out, b" to ", most(rule) as u64);
     if let SizeRule::Pool = rule {
-        say::words(b" bytes");
+        say::words(out, b" bytes");
     } else {
-        say::words(b" rows");
+        say::words(out, b" rows");
     }
 }
 
@@ -70,8 +71,8 @@ fn schema_sentence(rule: SchemaRule) -> usize {
     }
 }
 
-fn print_schema_rule(rule: SchemaRule) {
-    say::words(line(
+fn print_schema_rule(out: &impl Print, rule: SchemaRule) {
+    let sentence = line(
         b"a name is 1 to 64 letters, digits and _ of the pool, and starts with no digit\n\
         names 0 to 11 are the twelve that the word reserved stands for\n\
         an earlier row has the same name\n\
@@ -86,7 +87,8 @@ fn print_schema_rule(rule: SchemaRule) {
         two arguments of the field have the same name\n\
         the root is the row of an object type",
         schema_sentence(rule),
-    ));
+    );
+    say::words(out, sentence);
 }
 
 // The place of its sentence below.
@@ -104,8 +106,8 @@ fn document_sentence(rule: DocumentRule) -> usize {
     }
 }
 
-fn print_document_rule(rule: DocumentRule) {
-    say::words(line(
+fn print_document_rule(out: &impl Print, rule: DocumentRule) {
+    let sentence = line(
         b"a set is a range of selections\n\
         a selection is a kind (0 to 2), skip, include, a place, and what its kind asks for\n\
         a given argument is a name and a literal\n\
@@ -116,7 +118,8 @@ fn print_document_rule(rule: DocumentRule) {
         its set belongs to the operation or to an earlier selection\n\
         its set belongs to the operation, to a selection or to an earlier fragment",
         document_sentence(rule),
-    ));
+    );
+    say::words(out, sentence);
 }
 
 // The place of its sentence below.
@@ -135,8 +138,8 @@ fn value_sentence(rule: ValueRule) -> usize {
     }
 }
 
-fn print_value_rule(rule: ValueRule) {
-    say::words(line(
+fn print_value_rule(out: &impl Print, rule: ValueRule) {
+    let sentence = line(
         b"a node is a kind (0 to 8) and what it asks for: a number, a string, a float as 1.0 or 1e0, or a range of later nodes\n\
         a node's key is a string\n\
         two nodes of the object have the same key\n\
@@ -148,14 +151,15 @@ fn print_value_rule(rule: ValueRule) {
         two answers of the object are for the same field\n\
         the first answer is an object",
         value_sentence(rule),
-    ));
+    );
+    say::words(out, sentence);
 }
 
-pub(crate) fn print_rule(rule: Rule) {
+pub(crate) fn print_rule(out: &impl Print, rule: Rule) {
     match rule {
-        Rule::Size(size) => print_size_rule(size),
-        Rule::Schema(schema) => print_schema_rule(schema),
-        Rule::Document(document) => print_document_rule(document),
-        Rule::Value(value) => print_value_rule(value),
+        Rule::Size(size) => print_size_rule(out, size),
+        Rule::Schema(schema) => print_schema_rule(out, schema),
+        Rule::Document(document) => print_document_rule(out, document),
+        Rule::Value(value) => print_value_rule(out, value),
     }
 }

@@ -10,27 +10,28 @@ mod runs;
 ghost use Rattle.std.specs.Prelude.{◌≤◌, length};
 
 use cases::next_case;
-use libc::STDOUT_FILENO;
 use numbers::read_numbers;
 use runs::answer_run;
+use std::rt::{Env, Files};
 use table_file::fault::Fault;
 use table_file::layout;
 use table_file::layout::{Pool, Sizes, Words};
+use verdict::arguments::{PATH_BYTES, count as argument_count};
 use verdict::lines::line_end;
 use verdict::words::print_depth;
 use verdict::{entries, file};
 use writing::write::put_all;
 
-fn say(text: &[u8]) {
-    io::write_all(STDOUT_FILENO, text);
+fn say(out: &impl Print, text: &[u8]) {
+    verdict::say::words(out, text);
 }
 
-fn answer_depth(pool: &Pool, words: &Words, sizes: Sizes) {
-    print_depth(entries::depth(pool, words, sizes));
+fn answer_depth(out: &impl Print, pool: &Pool, words: &Words, sizes: Sizes) {
+    print_depth(out, entries::depth(pool, words, sizes));
 }
 
 // Two texts as one table file. Nothing asked is a depth check.
-fn answer_tables(shared: &[u8], own: &[u8], asked: &[u32]) {
+fn answer_tables(out: &impl Print, shared: &[u8], own: &[u8], asked: &[u32]) {
     let mut text = file::new_text();
     let at = put_all(&mut text, 0, shared);
     let length = put_all(&mut text, at, own);
@@ -39,16 +40,16 @@ fn answer_tables(shared: &[u8], own: &[u8], asked: &[u32]) {
     let contents = table_file::read(file::bytes(&text, length), &mut pool, &mut words);
     let why = contents.fault;
     let Fault::Fine = why else {
-        say(b"is no table file: line ");
-        io::print_decimal(STDOUT_FILENO, contents.line as u64);
+        say(out, b"is no table file: line ");
+        verdict::say::number(out, contents.line as u64);
         return;
     };
     let sizes = contents.sizes;
     if asked.len() == 0 {
-        answer_depth(&pool, &words, sizes);
+        answer_depth(out, &pool, &words, sizes);
         return;
     }
-    answer_run(&pool, &words, sizes, asked);
+    answer_run(out, &pool, &words, sizes, asked);
 }
 
 // What stands behind `@ ` on a case's first line.
@@ -73,50 +74,49 @@ fn question_end(case: &[u8], end: usize) -> usize
     line_end(case, end + 1)
 }
 
-fn answer_case(shared: &[u8], case: &[u8]) {
+fn answer_case(out: &impl Print, shared: &[u8], case: &[u8]) {
     let end = line_end(case, 0);
-    say(label(&case[0..end]));
-    say(b": ");
+    say(out, label(&case[0..end]));
+    say(out, b": ");
     let below = question_end(case, end);
     let mut numbers = [0u32; 4352];
     let count = read_numbers(&case[end..below], &mut numbers);
-    answer_tables(shared, &case[below..], &numbers[0..count]);
-    say(b"\n");
+    answer_tables(out, shared, &case[below..], &numbers[0..count]);
+    say(out, b"\n");
 }
 
-fn replay(text: &[u8]) {
+fn replay(out: &impl Print, text: &[u8]) {
     let first = next_case(text, 0);
     let mut at = first;
     while at < text.len() {
         let next = next_case(text, at + 1);
-        answer_case(&text[0..first], &text[at..next]);
+        answer_case(out, &text[0..first], &text[at..next]);
         at = next;
     }
 }
 
-fn replay_argument(number: usize) {
-    let mut path = io::buffer();
-    let n = os::arg(number, &mut path);
-    if os::errno() != 0 {
-        say(b"a file's name is longer than a path may be\n");
-        return;
-    }
-    let mut text = file::new_text();
-    let read = file::read_text(&path[..n], &mut text);
-    let why = read.fault;
-    let file::Fault::Fine = why else {
-        say(&path[..n]);
-        say(b" cannot be read\n");
+fn replay_argument(rt: &(impl Print + Env + Files), number: usize) {
+    let mut path = [0u8; PATH_BYTES];
+    let Ok(n) = rt.arg(number, &mut path) else {
+        say(rt, b"a file's name is longer than a path may be\n");
         return;
     };
-    replay(file::bytes(&text, read.length));
+    let mut text = file::new_text();
+    let read = file::read_text(rt, &path[..n], &mut text);
+    let why = read.fault;
+    let file::Fault::Fine = why else {
+        say(rt, &path[..n]);
+        say(rt, b" cannot be read\n");
+        return;
+    };
+    replay(rt, file::bytes(&text, read.length));
 }
 
-fn main() {
-    let count = os::arg_count();
+fn main(rt: HostRuntime) {
+    let count = argument_count(&rt);
     let mut number: usize = 1;
     while number < count {
-        replay_argument(number);
+        replay_argument(&rt, number);
         number += 1;
     }
 }

@@ -2,12 +2,12 @@
 ghost use Rattle.std.specs.Prelude.{◌≤◌};
 
 use codes::report::Reported;
-use libc::STDOUT_FILENO;
 use rows::strings::is_same;
 use table_file::layout::{Pool, Sizes, Words};
 use table_file::{layout, pool_bytes, table};
 use verdict::answers::print_run;
 use verdict::runs::{run_by_choices, run_in_order};
+use verdict::say;
 
 // Buffers one larger than a run takes: what is refused can be asked too.
 pub const TEXT_BYTES: usize = 65537;
@@ -33,6 +33,7 @@ fn are_same_counts(a: Reported, b: Reported) -> bool {
 }
 
 fn print_answer(
+    out: &impl Print,
     pool: &Pool,
     words: &Words,
     sizes: Sizes,
@@ -41,7 +42,7 @@ fn print_answer(
     run: Reported,
 ) {
     let names = table(words, sizes, layout::NAMES);
-    print_run(pool_bytes(pool, sizes), names, text, errors, run, true);
+    print_run(out, pool_bytes(pool, sizes), names, text, errors, run, true);
 }
 
 fn is_same_answer(
@@ -56,6 +57,7 @@ fn is_same_answer(
 }
 
 fn answer_by_choices(
+    out: &impl Print,
     pool: &Pool,
     words: &Words,
     sizes: Sizes,
@@ -64,13 +66,14 @@ fn answer_by_choices(
     errors: &mut [u32],
 ) -> Reported {
     let run = run_by_choices(pool, words, sizes, choices, text, errors);
-    print_answer(pool, words, sizes, text, errors, run);
+    print_answer(out, pool, words, sizes, text, errors, run);
     run
 }
 
 // Where there are no choices, the run in document order has to leave the same in both its buffers, which held something else before. If
 // it does not, its answer is printed too.
 fn compare_in_order(
+    out: &impl Print,
     pool: &Pool,
     words: &Words,
     sizes: Sizes,
@@ -84,11 +87,12 @@ fn compare_in_order(
     if is_same_answer(text, errors, run, other_text, other_errors, other) {
         return;
     }
-    io::write_all(STDOUT_FILENO, b", in document order ");
-    print_answer(pool, words, sizes, other_text, other_errors, other);
+    say::words(out, b", in document order ");
+    print_answer(out, pool, words, sizes, other_text, other_errors, other);
 }
 
 fn ask(
+    out: &impl Print,
     pool: &Pool,
     words: &Words,
     sizes: Sizes,
@@ -98,11 +102,12 @@ fn ask(
     other_text: &mut [u8],
     other_errors: &mut [u32],
 ) {
-    let run = answer_by_choices(pool, words, sizes, choices, text, errors);
+    let run = answer_by_choices(out, pool, words, sizes, choices, text, errors);
     if choices.len() > 0 {
         return;
     }
     compare_in_order(
+        out,
         pool,
         words,
         sizes,
@@ -123,9 +128,15 @@ fn size(number: u32, room: usize) -> usize
 }
 
 // What is asked: how many bytes of text and words of errors there is room for, and the choices.
-pub(crate) fn answer_run(pool: &Pool, words: &Words, sizes: Sizes, asked: &[u32]) {
+pub(crate) fn answer_run(
+    out: &impl Print,
+    pool: &Pool,
+    words: &Words,
+    sizes: Sizes,
+    asked: &[u32],
+) {
     if asked.len() < 2 {
-        io::write_all(STDOUT_FILENO, b"has no two buffers");
+        say::words(out, b"has no two buffers");
         return;
     }
     let bytes = size(asked[0], TEXT_BYTES);
@@ -135,6 +146,7 @@ pub(crate) fn answer_run(pool: &Pool, words: &Words, sizes: Sizes, asked: &[u32]
     let mut other_text = [0u8; TEXT_BYTES];
     let mut other_errors = [0u32; ERROR_WORDS];
     ask(
+        out,
         pool,
         words,
         sizes,

@@ -3,8 +3,8 @@ use verdict::lists::line;
 use verdict::say;
 
 // What is wrong with a field, by the code of its error.
-pub(crate) fn print_error(code: u32) {
-    say::words(line(
+pub(crate) fn print_error(out: &impl Print, code: u32) {
+    let sentence = line(
         b"nothing is wrong\n\
         the resolver failed\n\
         null for a non-null type\n\
@@ -31,12 +31,13 @@ pub(crate) fn print_error(code: u32) {
         an argument cannot be coerced\n\
         an argument is missing",
         code as usize,
-    ));
+    );
+    say::words(out, sentence);
 }
 
 // Why a run gave no data, by its code, and what to change.
-pub(crate) fn print_refusal(code: u32) {
-    say::words(line(
+pub(crate) fn print_refusal(out: &impl Print, code: u32) {
+    let sentence = line(
         b"nothing is wrong\n\
         the tables break a rule; mend the rows below\n\
         the operation asks for __schema or __type; take that field out\n\
@@ -46,5 +47,6 @@ pub(crate) fn print_refusal(code: u32) {
         the data is longer than 65,536 bytes; ask for less\n\
         the error records are longer than 16,384 words; mend what fails, or ask for less",
         code as usize,
-    ));
+    );
+    say::words(out, sentence);
 }

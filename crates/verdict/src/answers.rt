@@ -3,36 +3,35 @@ ghost use Rattle.std.specs.Prelude.{◌≡◌, ◌≤◌, ◌<◌, ◌-◌, leng
 
 use codes::outcome::Outcome;
 use codes::report::Reported;
-use libc::STDOUT_FILENO;
 use rows::names::name_text;
 
-fn say(text: &[u8]) {
-    io::write_all(STDOUT_FILENO, text);
+fn say(out: &impl Print, text: &[u8]) {
+    crate::say::words(out, text);
 }
 
-fn say_number(n: u32) {
-    io::print_decimal(STDOUT_FILENO, n as u64);
+fn say_number(out: &impl Print, n: u32) {
+    crate::say::number(out, n as u64);
 }
 
 // A segment of a path is a name or an index.
-fn print_segment(pool: &[u8], names: &[u32], kind: u32, value: u32) {
+fn print_segment(out: &impl Print, pool: &[u8], names: &[u32], kind: u32, value: u32) {
     if kind == 0 {
-        say(name_text(pool, names, value));
+        say(out, name_text(pool, names, value));
     } else {
-        say_number(value);
+        say_number(out, value);
     }
 }
 
-fn print_path(pool: &[u8], names: &[u32], path: &[u32]) {
+fn print_path(out: &impl Print, pool: &[u8], names: &[u32], path: &[u32]) {
     let mut at = 0;
     while at < path.len() {
         if path.len() - at < 2 {
             return;
         }
         if at > 0 {
-            say(b".");
+            say(out, b".");
         }
-        print_segment(pool, names, path[at], path[at + 1]);
+        print_segment(out, pool, names, path[at], path[at + 1]);
         at += 2;
     }
 }
@@ -59,27 +58,33 @@ fn record_size(errors: &[u32], at: usize) -> usize
     3 + 2 * segments
 }
 
-fn print_record(pool: &[u8], names: &[u32], record: &[u32], with_places: bool) {
+fn print_record(out: &impl Print, pool: &[u8], names: &[u32], record: &[u32], with_places: bool) {
     if record.len() < 3 {
         return;
     }
-    say(b" ");
-    say_number(record[0]);
-    say(b":");
-    print_path(pool, names, &record[3..]);
+    say(out, b" ");
+    say_number(out, record[0]);
+    say(out, b":");
+    print_path(out, pool, names, &record[3..]);
     if with_places {
-        say(b"@");
-        say_number(record[1]);
+        say(out, b"@");
+        say_number(out, record[1]);
     }
 }
 
 // Prints the records, and gives how many there are.
-fn print_records(pool: &[u8], names: &[u32], errors: &[u32], with_places: bool) -> usize {
+fn print_records(
+    out: &impl Print,
+    pool: &[u8],
+    names: &[u32],
+    errors: &[u32],
+    with_places: bool,
+) -> usize {
     let mut count: usize = 0;
     let mut at = 0;
     while at < errors.len() {
         let end = at + record_size(errors, at);
-        print_record(pool, names, &errors[at..end], with_places);
+        print_record(out, pool, names, &errors[at..end], with_places);
         at = end;
         count += 1;
     }
@@ -96,6 +101,7 @@ fn within(count: u32, room: usize) -> usize
 
 // With `@` and its place behind each error on request. A count of records that is another than that of those printed is said.
 pub fn print_run(
+    out: &impl Print,
     pool: &[u8],
     names: &[u32],
     text: &[u8],
@@ -104,18 +110,18 @@ pub fn print_run(
     with_places: bool,
 ) {
     let answered = Outcome::Answered;
-    say_number(run.code);
-    say(b" ");
+    say_number(out, run.code);
+    say(out, b" ");
     if run.code != answered.code() {
-        say(b"-");
+        say(out, b"-");
         return;
     }
     let bytes = within(run.bytes, text.len());
     let words = within(run.words, errors.len());
-    say(&text[0..bytes]);
-    let printed = print_records(pool, names, &errors[0..words], with_places);
+    say(out, &text[0..bytes]);
+    let printed = print_records(out, pool, names, &errors[0..words], with_places);
     if printed != run.records as usize {
-        say(b" counted ");
-        say_number(run.records);
+        say(out, b" counted ");
+        say_number(out, run.records);
     }
 }

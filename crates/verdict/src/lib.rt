@@ -1,5 +1,6 @@
-// What the programs over table files share: a file's text and its lines, the entries' answers to its tables, and standard output.
+// What the programs over table files share: the command line, a file's text and its lines, the entries' answers to its tables, and standard output.
 pub mod answers;
+pub mod arguments;
 pub mod entries;
 pub mod file;
 pub mod lines;

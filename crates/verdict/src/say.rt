@@ -1,16 +1,15 @@
-// Standard output.
-use libc::STDOUT_FILENO;
+// Standard output. What it does not take is left, as on a full disk.
 
-pub fn words(text: &[u8]) {
-    io::write_all(STDOUT_FILENO, text);
+pub fn words(out: &impl Print, text: &[u8]) {
+    let _ = out.write_all(text);
 }
 
-pub fn number(n: u64) {
-    io::print_decimal(STDOUT_FILENO, n);
+pub fn number(out: &impl Print, n: u64) {
+    let _ = out.print(n);
 }
 
 // A number with a text before it.
-pub fn number_behind(text: &[u8], n: u64) {
-    words(text);
-    number(n);
+pub fn number_behind(out: &impl Print, text: &[u8], n: u64) {
+    words(out, text);
+    number(out, n);
 }
