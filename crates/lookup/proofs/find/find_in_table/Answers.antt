@@ -1,6 +1,5 @@
 -- The rows of the table are as many as `row_count` says. Assumes nothing.
 use Rattle.graphql.specs.Lookup.{rows_in}
-use borrow.Author.Rules.{rules}
 use Rattle.lookup.proofs.find.find_in_table.Goals as goal
 
 pub returns : goal.returns

@@ -1,8 +1,6 @@
 -- The rows passed have other words; the first that has this one ends the search. Assumes nothing.
-use Prim.Native.Nat.{◌-◌}
 use borrow.Author.Rules.{rules}
-use Rattle.lookup.specs.Found.{has_word}
-use Rattle.lookup.proofs.Searching.{Seeking, seeking}
+use Rattle.lookup.proofs.Searching.{seeking}
 use Rattle.lookup.proofs.find.find_word.Goals as goal
 
 pub loop-i-init : goal.loop-i-init

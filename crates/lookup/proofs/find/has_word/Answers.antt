@@ -1,6 +1,5 @@
 -- One of the rows has the word just if the search finds one. Assumes nothing.
 use Rattle.lookup.proofs.Searching.{none_passes, one_passes}
-use borrow.Author.Rules.{rules}
 use Rattle.lookup.proofs.find.has_word.Goals as goal
 
 pub returns-in-Absent : goal.returns-in-Absent

@@ -1,6 +1,5 @@
 -- A name is a word of its column. Assumes nothing.
 use Rattle.graphql.specs.Lookup.{field_answer}
-use borrow.Author.Rules.{rules}
 use Rattle.lookup.proofs.named.field_answer.Goals as goal
 
 pub returns : goal.returns

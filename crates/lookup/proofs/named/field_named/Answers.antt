@@ -2,7 +2,6 @@
 use Rattle.rows.specs.Schema.{field_at}
 use Rattle.graphql.specs.Lookup.{field_named}
 use native.Mathlib.Omega.{arith}
-use borrow.Author.Rules.{rules}
 use Rattle.lookup.proofs.named.field_named.Goals as goal
 
 pub find_word-requires : goal.find_word-requires

@@ -1,7 +1,6 @@
 -- A name is a word of its column. Assumes nothing.
 use Rattle.rows.specs.Document.{fragment_at}
 use Rattle.graphql.specs.Lookup.{fragment_named}
-use borrow.Author.Rules.{rules}
 use Rattle.lookup.proofs.named.fragment_named.Goals as goal
 
 pub returns : goal.returns

@@ -1,6 +1,5 @@
 -- The rows are those of the type that `type_at` reads. Assumes nothing.
 use Rattle.graphql.specs.Lookup.{has_value}
-use borrow.Author.Rules.{rules}
 use Rattle.lookup.proofs.named.has_value.Goals as goal
 
 pub is_member-requires : goal.is_member-requires

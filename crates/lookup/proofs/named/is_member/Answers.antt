@@ -1,8 +1,6 @@
 -- The members passed have other names; the first that has this one ends the search. Assumes nothing.
-use Prim.Native.Nat.{◌-◌}
 use borrow.Author.Rules.{rules}
-use Rattle.lookup.specs.Found.{is_named}
-use Rattle.lookup.proofs.Searching.{Seeking, members}
+use Rattle.lookup.proofs.Searching.{members}
 use Rattle.lookup.proofs.named.is_member.Goals as goal
 
 pub loop-i-init : goal.loop-i-init

@@ -1,8 +1,7 @@
 -- The members passed have other names; the first that has this one ends the search. Assumes nothing.
 use Prim.Native.Nat.{◌-◌}
-use borrow.Author.Rules.{rules}
 use Rattle.lookup.specs.Found.{is_named}
-use Rattle.lookup.proofs.Searching.{Seeking, members}
+use Rattle.lookup.proofs.Searching.{Seeking}
 use Rattle.lookup.proofs.named.is_member.Given as goal
 
 abbrev pub invariant-loop-i : goal.invariant-loop-i

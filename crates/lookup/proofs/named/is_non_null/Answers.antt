@@ -1,6 +1,5 @@
 -- Both kinds of reference say it. Assumes nothing.
 use Rattle.graphql.specs.Lookup.{non_null, non_null_ref}
-use borrow.Author.Rules.{rules}
 use Rattle.lookup.proofs.named.is_non_null.Goals as goal
 
 pub returns-in-Named : goal.returns-in-Named

@@ -1,7 +1,6 @@
 -- The rows are those of the type that `type_at` reads, and a name is a word of its column. Assumes nothing.
 use Rattle.graphql.specs.Lookup.{lists}
 use native.Mathlib.Omega.{arith}
-use borrow.Author.Rules.{rules}
 use Rattle.lookup.proofs.named.lists_name.Goals as goal
 
 pub has_word-requires : goal.has_word-requires

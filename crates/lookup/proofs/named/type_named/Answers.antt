@@ -1,7 +1,6 @@
 -- A name is a word of its column. Assumes nothing.
 use Rattle.rows.specs.Schema.{type_at}
 use Rattle.graphql.specs.Lookup.{type_named}
-use borrow.Author.Rules.{rules}
 use Rattle.lookup.proofs.named.type_named.Goals as goal
 
 pub returns : goal.returns

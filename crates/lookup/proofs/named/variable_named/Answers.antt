@@ -1,7 +1,6 @@
 -- A name is a word of its column. Assumes nothing.
 use Rattle.rows.specs.Json.{variable_at}
 use Rattle.graphql.specs.Lookup.{variable_named}
-use borrow.Author.Rules.{rules}
 use Rattle.lookup.proofs.named.variable_named.Goals as goal
 
 pub returns : goal.returns

@@ -1,10 +1,8 @@
 -- Both functions, by one induction: the containers that may still be opened fall. Assumes nothing.
-use Prim.Native.Nat.{ℕ, ◌+◌, ◌*◌, ◌-◌, ◌<◌}
-use borrow.Author.Rules.{rules}
+use Prim.Native.Nat.{◌+◌, ◌*◌, ◌-◌}
 use Rattle.graphql.specs.Values.{part_by_part}
 use Rattle.values.specs.Literals.{literal_key_text}
 use Rattle.values.proofs.Going.{Going}
-use Rattle.values.proofs.Literals.{walking}
 use Rattle.values.proofs.literal.+put_literal_put_parts.Given as goal
 
 abbrev pub decreases-put_literal : goal.decreases-put_literal

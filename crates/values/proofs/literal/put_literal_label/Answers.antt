@@ -1,5 +1,4 @@
 -- A comma, and with a key its string and a colon behind it, are one text. Assumes nothing.
-use borrow.Author.Rules.{rules}
 use Rattle.values.proofs.Labels.{labels}
 use Rattle.values.proofs.literal.put_literal_label.Goals as goal
 

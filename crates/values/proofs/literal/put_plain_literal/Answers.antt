@@ -1,5 +1,4 @@
 -- Each variant that is neither a container nor a variable is written by its own writer. Assumes nothing.
-use borrow.Author.Rules.{rules}
 use Rattle.values.proofs.Literals.{plain}
 use Rattle.values.proofs.literal.put_plain_literal.Goals as goal
 

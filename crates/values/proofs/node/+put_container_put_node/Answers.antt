@@ -1,9 +1,5 @@
 -- Both functions, by one induction: the containers that may still be opened fall. Assumes nothing.
-use Prim.Native.Nat.{ℕ, ◌+◌, ◌*◌, ◌-◌, ◌<◌}
 use borrow.Author.Rules.{rules}
-use Rattle.graphql.specs.Values.{node_value}
-use Rattle.values.specs.Put.{key_text}
-use Rattle.values.proofs.Going.{Going}
 use Rattle.values.proofs.Walk.{walking}
 use Rattle.values.proofs.node.+put_container_put_node.Goals as goal
 

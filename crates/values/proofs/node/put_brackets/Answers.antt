@@ -1,5 +1,4 @@
 -- Either way the brackets are those of the container. Assumes nothing.
-use borrow.Author.Rules.{rules}
 use Rattle.values.proofs.Labels.{brackets}
 use Rattle.values.proofs.node.put_brackets.Goals as goal
 

@@ -1,5 +1,4 @@
 -- Each variant that is no container is written by its own writer. Assumes nothing.
-use borrow.Author.Rules.{rules}
 use Rattle.values.proofs.Nodes.{plain}
 use Rattle.values.proofs.plain.put_plain.Goals as goal
 

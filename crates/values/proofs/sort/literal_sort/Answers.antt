@@ -1,5 +1,4 @@
 -- As for a node. Assumes nothing.
-use borrow.Author.Rules.{rules}
 use Rattle.values.proofs.sort.literal_sort.Goals as goal
 
 pub returns : goal.returns

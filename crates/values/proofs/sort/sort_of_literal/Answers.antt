@@ -1,5 +1,4 @@
 -- Each variant has its sort. Assumes nothing.
-use borrow.Author.Rules.{rules}
 use Rattle.values.proofs.sort.sort_of_literal.Goals as goal
 
 pub returns-in-Natural : goal.returns-in-Natural

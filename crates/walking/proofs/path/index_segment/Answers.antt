@@ -2,7 +2,6 @@
 use mathlib.Core.Path.{refl}
 use Prim.Native.Nat.{◌+◌}
 use Rattle.walking.proofs.PathLaws.{segment_index}
-use borrow.Author.Rules.{rules}
 use Rattle.walking.proofs.path.index_segment.Goals as goal
 
 pub returns : goal.returns

@@ -1,7 +1,6 @@
 -- The head, and then a segment of the path at a time. Assumes nothing.
-use Prim.Native.Nat.{◌-◌}
 use borrow.Author.Rules.{rules}
-use Rattle.walking.proofs.Records.{Recording, recording_begin, recording_again, recording_ended}
+use Rattle.walking.proofs.Records.{recording_begin, recording_again, recording_ended}
 use Rattle.walking.proofs.record.put_record.Goals as goal
 
 pub loop-i-init : goal.loop-i-init

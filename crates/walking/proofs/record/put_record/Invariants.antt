@@ -1,7 +1,6 @@
 -- The head, and then a segment of the path at a time. Assumes nothing.
 use Prim.Native.Nat.{◌-◌}
-use borrow.Author.Rules.{rules}
-use Rattle.walking.proofs.Records.{Recording, recording_begin, recording_again, recording_ended}
+use Rattle.walking.proofs.Records.{Recording}
 use Rattle.walking.proofs.record.put_record.Given as goal
 
 abbrev pub invariant-loop-i : goal.invariant-loop-i

@@ -1,6 +1,5 @@
 -- Only what goes past a list is lowered. Assumes nothing.
 use Rattle.walking.proofs.Settling.{past_placed, past_other, past_past}
-use borrow.Author.Rules.{rules}
 use Rattle.walking.proofs.settle.past_list.Goals as goal
 
 pub returns-in_default : goal.returns-in_default

@@ -1,5 +1,4 @@
 -- The state is the one that was moved. Assumes nothing.
-use borrow.Author.Rules.{rules}
 use Rattle.walking.proofs.settle.placed.Goals as goal
 
 pub returns : goal.returns

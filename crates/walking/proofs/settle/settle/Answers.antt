@@ -1,6 +1,5 @@
 -- Only a value that is there stays written. Assumes nothing.
 use Rattle.walking.proofs.Settling.{settle_fails, settle_kept, settle_left_out}
-use borrow.Author.Rules.{rules}
 use Rattle.walking.proofs.settle.settle.Goals as goal
 
 pub returns-in_default : goal.returns-in_default

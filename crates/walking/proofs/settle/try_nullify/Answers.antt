@@ -1,6 +1,5 @@
 -- Only what failed here, where it may be null, is nulled. Assumes nothing.
 use Rattle.walking.proofs.Settling.{nullify_placed, nullify_further, nullify_non_null, nullify_null}
-use borrow.Author.Rules.{rules}
 use Rattle.walking.proofs.settle.try_nullify.Goals as goal
 
 pub returns-in_default : goal.returns-in_default
