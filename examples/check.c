@@ -2,6 +2,7 @@
  * root's answer. Prints 0; then the kind of Query becomes one that is none, and it prints 1.
  *
  *     (cd crates/ladlehedge && rt lib)
+ *     mkdir -p target
  *     cc -Wall -Wextra -Iinclude examples/check.c crates/ladlehedge/out/libladlehedge.a -o target/check
  *     target/check
  */

@@ -3,6 +3,7 @@
  * is that field's.
  *
  *     (cd crates/ladlehedge && rt lib)
+ *     mkdir -p target
  *     cc -Wall -Wextra -Iinclude examples/depth.c crates/ladlehedge/out/libladlehedge.a -o target/depth
  *     target/depth
  */

@@ -8,6 +8,7 @@
  * then the same with g taken first, which changes the order of the errors alone, and then `6`: a text buffer of 8 bytes is too short.
  *
  *     (cd crates/ladlehedge && rt lib)
+ *     mkdir -p target
  *     cc -Wall -Wextra -Iinclude examples/run.c crates/ladlehedge/out/libladlehedge.a -o target/run
  *     target/run
  */
