@@ -1,2 +1,4 @@
 // Checks on introspection queries, beside the Rust's `introspection`.
+#![tactic(auto)]
+
 pub mod max_depth;

@@ -1,16 +1,15 @@
 -- What is expected at a type, and a field's definition, way by way. Assumes nothing.
-use mathlib.Core.Path.{◌≡◌, refl, sym, ◌∙◌}
-use mathlib.Core.Bool.{Bool, true, false, cond}
+use mathlib.Core.Path.{◌≡◌, refl, ◌∙◌}
+use mathlib.Core.Bool.{Bool, false}
 use mathlib.Core.List.{List, [], ◌∷◌}
 use mathlib.Core.Option.{Option, none, some}
 use Prim.Native.Nat.{ℕ, ◌+◌, ◌-◌, ◌≤◌, ◌<◌}
-use native.Mathlib.Nat.{zero-add}
 use native.Mathlib.Omega.{arith}
-use lib.Dec.{eqb, ltb}
+use lib.Dec.{eqb}
 use types.Run.{miss}
 use borrow.Enum.Refused.{Among, opened}
 use denote.Enum.Declared.{tag_of}
-use borrow.Author.Tests.{eq-eqb, ne_eqb, lt-ltb, le-ltb}
+use borrow.Author.Tests.{ne_eqb, lt-ltb, le-ltb}
 use Rattle.rows.specs.Layout.{type_width}
 use Rattle.rows.specs.Limits.{most_types, most_fields}
 use Rattle.rows.specs.Rows.{rows_of}
@@ -24,7 +23,7 @@ use Rattle.rows.specs.declared.schema.TypeRef.TheVariants as ref
 use Rattle.rows.specs.declared.schema.TypeKind.{TypeKind}
 use Rattle.rows.specs.declared.schema.TypeKind.TheVariants as kind
 use Rattle.rows.specs.contracts.schema.TypeKind as kinds
-use Rattle.graphql.specs.Lookup.{find, rows_from, rows_in, type_named, field_named}
+use Rattle.graphql.specs.Lookup.{rows_in, type_named, field_named}
 use Rattle.graphql.specs.Complete.{Definition, typename, defined, definition_of}
 use Rattle.lookup.specs.Found.{row_of}
 use Rattle.lookup.proofs.Searching.{find_below}

@@ -1,8 +1,8 @@
 -- Fields put to groups, one after the other: what the rows and the owners stand for. Assumes nothing.
 use mathlib.Core.Path.{◌≡◌, refl, sym, ap, ◌∙◌}
-use mathlib.Core.Bool.{Bool, true, false, cond}
+use mathlib.Core.Bool.{Bool, true, false}
 use mathlib.Core.List.{List, [], ◌∷◌, ◌++◌}
-use Prim.Native.Nat.{ℕ, zero, suc, ◌+◌, ◌*◌, ◌-◌, ◌≤◌, ◌<◌}
+use Prim.Native.Nat.{ℕ, zero, suc, ◌+◌, ◌*◌, ◌≤◌, ◌<◌}
 use native.Mathlib.Nat.{add-zero}
 use native.Mathlib.Decide.{dec_le}
 use native.Mathlib.Numerals.{add-one}
@@ -19,7 +19,7 @@ use Rattle.codes.specs.Outcome.{most_collected}
 use Rattle.graphql.specs.Collect.{Group, grouped}
 use Rattle.collecting.specs.Collecting.{FieldRow, groups_of}
 use Rattle.planning.specs.Expected.{Referred}
-use Rattle.planning.specs.Plans.{word_at, first_of, most_words, Kept, picked, rest, group_of, tabled, GroupRow, Which, PutRow, Groupable, owned, Grouping}
+use Rattle.planning.specs.Plans.{word_at, first_of, Kept, picked, rest, group_of, tabled, GroupRow, Which, PutRow, Groupable, owned, Grouping}
 
 -- ---- lists of groups
 

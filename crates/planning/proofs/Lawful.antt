@@ -1,7 +1,6 @@
 -- In lawful tables what a plan holds fits 16 bits. Assumes nothing.
-use mathlib.Core.Path.{◌≡◌, ◌∙◌}
+use mathlib.Core.Path.{◌≡◌}
 use mathlib.Core.Bool.{true, ◌&&◌}
-use mathlib.Core.List.{List}
 use Prim.Native.Nat.{ℕ, ◌+◌, ◌*◌, ◌≤◌, ◌<◌}
 use native.Mathlib.Decide.{dec_le}
 use native.Mathlib.Omega.{arith}
@@ -14,7 +13,6 @@ use Rattle.rows.specs.Schema.{type_ref_at, type_at}
 use Rattle.rows.specs.Document.{field_selection, selection_at}
 use Rattle.rows.specs.declared.schema.TypeRef.{TypeRef}
 use Rattle.rows.specs.declared.schema.TypeRef.TheVariants as ref
-use Rattle.rows.specs.declared.document.FieldSelection.{FieldSelection}
 use Rattle.rows.proofs.Every.{and_left, and_right}
 use Rattle.rules.specs.Rows.{is_row, within}
 use Rattle.rules.specs.Schema.{ref_lawful}
@@ -23,7 +21,7 @@ use Rattle.tables.specs.Tables.{Tables, name_count, ref_count, type_count, membe
 use Rattle.tables.specs.Lawful.{lawful}
 use Rattle.tables.proofs.Facts.{whole, at_most, few_names, few_type_refs, few_types, few_fields, types_counted, type_refs_counted, selections_counted, type_ref_row_lem, type_row_lem, selection_row_lem}
 use Rattle.collecting.specs.Collecting.{FieldRow}
-use Rattle.planning.specs.Expected.{ref_of, Referred}
+use Rattle.planning.specs.Expected.{ref_of}
 use Rattle.planning.specs.Plans.{Fitting}
 
 module _ (T : Tables) (h : lawful T ≡ true) where

@@ -9,7 +9,6 @@ use native.Mathlib.Omega.{arith}
 use lib.Dec.{eqb}
 use lib.ListN.{length}
 use borrow.Author.Tests.{eq-eqb, ne_eqb}
-use Rattle.rows.specs.Limits.{most_selections}
 use Rattle.rows.specs.Document.{set_at, field_selection}
 use Rattle.rows.specs.declared.layout.Range.{Range}
 use Rattle.rows.specs.declared.document.FieldSelection.{FieldSelection}
@@ -20,12 +19,12 @@ use Rattle.graphql.specs.Run.{Choices, Res, M, stop, failed, done, after, pure, 
 use Rattle.graphql.specs.Lookup.{rows_in, selections_of}
 use Rattle.graphql.specs.Collect.{Collected, none_yet, collect_fields}
 use Rattle.graphql.specs.Complete.{merge_selection_sets}
-use Rattle.collecting.specs.Collecting.{Collectable, Shows, GoesOn, Comes, Collects, CollectsRows, selection_done, rows_done}
+use Rattle.collecting.specs.Collecting.{Collectable, GoesOn, Comes, CollectsRows, selection_done, rows_done}
 use Rattle.collecting.specs.declared.collect.Gathered.{Gathered}
 use Rattle.collecting.specs.declared.collect.Collecting.{Collecting}
 use Rattle.collecting.specs.declared.collect.Collecting.TheVariants.{On, TooFar, TooManyFields}
 use Rattle.collecting.proofs.Shown.{shows_none}
-use Rattle.collecting.proofs.Ends.{stays, Stopped, comes_as, stopped, went}
+use Rattle.collecting.proofs.Ends.{stays, Stopped, went}
 use Rattle.collecting.proofs.Walk.{collect_on, set_within}
 use Rattle.planning.specs.Plans.{word_at, group_count, field_count, first_of, picked, fields_of, members_of, document, child_rows, CollectsChild, CollectsOwned, Gathers, Lookable, field_rows}
 

@@ -1,27 +1,17 @@
 -- A plan that is put stands for what was collected, and what stood before it still stands. Assumes nothing.
-use mathlib.Core.Path.{◌≡◌, refl, sym, ap, ◌∙◌}
+use mathlib.Core.Path.{◌≡◌, refl, sym, ◌∙◌}
 use mathlib.Core.Bool.{Bool, true, false, cond}
-use mathlib.Core.List.{List, [], ◌∷◌, ◌++◌}
-use Prim.Native.Nat.{ℕ, zero, suc, ◌+◌, ◌*◌, ◌-◌, ◌≤◌, ◌<◌}
-use native.Mathlib.Nat.{add-zero, zero-add}
+use mathlib.Core.List.{List, [], ◌∷◌}
+use Prim.Native.Nat.{ℕ, ◌+◌, ◌*◌, ◌-◌, ◌≤◌, ◌<◌}
 use native.Mathlib.Decide.{dec_le}
 use native.Mathlib.Omega.{arith}
 use lib.Dec.{eqb}
-use lib.ListN.{length, get_or, set, take, length-set}
-use borrow.Author.Tests.{eqb-true, eqb-false, eq-eqb, ne_eqb}
-use Rattle.rows.specs.Document.{field_selection}
-use Rattle.codes.specs.Outcome.{most_collected, most_open, too_far, too_many_fields}
-use Rattle.graphql.specs.Run.{Choices, M, Res, stop, done, pure, onward, ◌>>=◌}
-use Rattle.graphql.specs.Collect.{Group, Collected, none_yet, collect_fields, collect}
+use lib.ListN.{length, get_or, take}
+use borrow.Author.Tests.{eq-eqb, ne_eqb}
 use Rattle.graphql.specs.Request.{Request}
-use Rattle.graphql.specs.Complete.{merge_selection_sets}
-use Rattle.collecting.specs.Collecting.{FieldRow, groups_of, Shows, GoesOn, rows_done}
-use Rattle.collecting.specs.declared.collect.Gathered.{Gathered}
-use Rattle.collecting.proofs.Ends.{went}
-use Rattle.planning.specs.Plans.{word_at, group_count, field_count, first_of, field_rows, plan_end, most_words, Kept, picked, fields_of, members_of, rest, group_of, group_at, tabled, groups_at, GroupRow, Holds, PlanOf, Head, Standing, Groupable, owned, Grouping, PutFields, PutHead, Puttable, PutPlan}
-use Rattle.planning.specs.declared.plan.Planned.{Planned}
+use Rattle.planning.specs.Plans.{word_at, group_count, field_count, first_of, field_rows, plan_end, Kept, picked, fields_of, members_of, group_of, group_at, groups_at, Holds, PlanOf, Head, Standing, owned, Grouping, PutFields, PutHead, Puttable, PutPlan}
 use Rattle.planning.specs.declared.plan.Planned.TheVariants as planned
-use Rattle.planning.proofs.Grouped.{tabled_same, picked_same, kept_on, row_same, row_on}
+use Rattle.planning.proofs.Grouped.{tabled_same, picked_same, row_same, row_on}
 
 -- ---- words that are as before, in the rows of a plan
 

@@ -3,8 +3,7 @@ use mathlib.Core.Path.{◌≡◌, refl, sym, ◌∙◌}
 use mathlib.Core.Bool.{Bool, false, ◌&&◌}
 use mathlib.Core.List.{List, [], ◌∷◌}
 use mathlib.Core.Option.{Option}
-use Prim.Native.Nat.{ℕ, zero, suc, ◌+◌, ◌*◌, ◌-◌, ◌≤◌, ◌<◌}
-use native.Mathlib.Nat.{add-zero}
+use Prim.Native.Nat.{ℕ, suc, ◌+◌, ◌*◌, ◌-◌, ◌≤◌, ◌<◌}
 use native.Mathlib.Decide.{dec_le}
 use native.Mathlib.Omega.{arith}
 use lib.Dec.{eqb, ltb}
@@ -15,7 +14,7 @@ use Rattle.rows.specs.declared.document.FieldSelection.{FieldSelection}
 use Rattle.graphql.specs.Complete.{Definition, definition_of}
 use Rattle.planning.specs.Expected.{expected_of}
 use Rattle.planning.specs.declared.expected.Expected.{Expected}
-use Rattle.planning.specs.Plans.{word_at, Kept, definition_code, schema, Which, PutRow, PutHead, PutFields}
+use Rattle.planning.specs.Plans.{word_at, definition_code, schema, Which, PutRow, PutHead, PutFields}
 
 unfoldable pub put_all : List ℕ → (at column : ℕ) → List ℕ → List ℕ
 put_all l at column [] = l

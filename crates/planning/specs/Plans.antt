@@ -1,14 +1,14 @@
 -- Plans: what the rows of eight words of a lent array stand for. A plan's head says how many groups and fields it has; a row for each group
 -- follows and, where some group has more than one field, a row for each field. What stands is never changed.
-use Rattle.std.specs.Prelude.{◌≡◌, List, [], ◌∷◌, ◌++◌, Bool, cond, ◌&&◌, ℕ, zero, suc, ◌+◌, ◌*◌, ◌-◌, ◌≤◌, ◌<◌, eqb, ltb, length, get_or, take}
+use Rattle.std.specs.Prelude.{◌≡◌, List, [], ◌∷◌, ◌++◌, cond, ℕ, zero, suc, ◌+◌, ◌*◌, ◌-◌, ◌≤◌, ◌<◌, eqb, length, get_or, take}
 use Rattle.std.proofs.Math.Option.{Option, none, some}
-use Rattle.rows.specs.Limits.{most_names, most_fields, most_selections, most_types}
+use Rattle.rows.specs.Limits.{most_names, most_fields, most_types}
 use Rattle.rows.specs.Schema.{type_at}
 use Rattle.rows.specs.Document.{field_selection}
 use Rattle.rows.specs.declared.document.FieldSelection.{FieldSelection}
 use Rattle.tables.specs.Tables.{Tables, tables}
 use Rattle.codes.specs.Outcome.{too_far, too_many_fields, most_open, most_collected}
-use Rattle.graphql.specs.Run.{Choices, M, stop, done}
+use Rattle.graphql.specs.Run.{Choices, stop, done}
 use Rattle.graphql.specs.Lookup.{selections_of}
 use Rattle.graphql.specs.Collect.{Group, none_yet, collect}
 use Rattle.graphql.specs.Request.{Request}

@@ -1,9 +1,6 @@
 -- The five functions of the walk, by one induction: the fragments that may still be opened fall. Assumes nothing.
 use Prim.Native.Nat.{◌+◌, ◌*◌, ◌-◌}
-use native.Mathlib.Omega.{arith}
-use borrow.Author.Rules.{rules}
-use Rattle.collecting.proofs.Walk.{Going, walking}
-use Prim.Native.Nat.{ℕ, ◌<◌}
+use Rattle.collecting.proofs.Walk.{Going}
 use Rattle.collecting.proofs.collect.+collect_fields_collect_inline_collect_selection_collect_spread_open_set.Given as goal
 
 abbrev pub decreases-collect_fields : goal.decreases-collect_fields

@@ -1,6 +1,5 @@
 -- The list is full, or the row is put after those that it has. Assumes nothing.
 use native.Mathlib.Omega.{arith}
-use borrow.Author.Rules.{rules}
 use Rattle.collecting.proofs.Walk.{field_full, field_put}
 use Rattle.collecting.proofs.collect.collect_field.Goals as goal
 

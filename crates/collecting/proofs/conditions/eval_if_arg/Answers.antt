@@ -1,5 +1,4 @@
 -- By the cases of the condition. Assumes nothing.
-use borrow.Author.Rules.{rules}
 use Rattle.graphql.specs.Collect.{holds}
 use Rattle.collecting.proofs.conditions.eval_if_arg.Goals as goal
 

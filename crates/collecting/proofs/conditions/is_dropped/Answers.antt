@@ -1,5 +1,4 @@
 -- Both conditions are looked at, as the definition does. Assumes nothing.
-use borrow.Author.Rules.{rules}
 use Rattle.collecting.proofs.conditions.is_dropped.Goals as goal
 
 pub returns : goal.returns

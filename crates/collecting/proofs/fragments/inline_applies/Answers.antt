@@ -1,5 +1,4 @@
 -- With no type it applies; with one, as the type does. Assumes nothing.
-use borrow.Author.Rules.{rules}
 use Rattle.graphql.specs.Collect.{inline_applies}
 use Rattle.collecting.proofs.fragments.inline_applies.Goals as goal
 

@@ -1,5 +1,4 @@
 -- The name is that of the type that `type_at` reads. Assumes nothing.
-use borrow.Author.Rules.{rules}
 use Rattle.collecting.proofs.fragments.type_name.Goals as goal
 
 pub returns : goal.returns

@@ -1,5 +1,4 @@
 -- A row's bit is the number 1 shifted by the row. Assumes nothing.
-use borrow.Author.Rules.{rules}
 use Rattle.collecting.proofs.Bits.{mark_set}
 use Rattle.collecting.proofs.visited.with_visited.Goals as goal
 

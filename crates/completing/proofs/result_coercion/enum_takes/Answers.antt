@@ -1,6 +1,5 @@
 -- A string that is the name of a value. Assumes nothing.
 use Rattle.completing.proofs.Leaves.{enum_other, enum_string}
-use borrow.Author.Rules.{rules}
 use Rattle.completing.proofs.result_coercion.enum_takes.Goals as goal
 
 pub has_value-requires : goal.has_value-requires

@@ -6,7 +6,6 @@ use Prim.Native.Nat.{ℕ}
 use Rattle.graphql.specs.Json.{a_long, a_string, an_int}
 use Rattle.completing.specs.Judged.{id_taken}
 use Rattle.completing.proofs.Sorts.{is_not}
-use borrow.Author.Rules.{rules}
 use Rattle.completing.proofs.result_coercion.id_takes.Goals as goal
 
 -- the numbers of the other sorts

@@ -1,6 +1,5 @@
 -- The object type names the interface. Assumes nothing.
 use Rattle.completing.proofs.Types.{interface_unknown, object_implements}
-use borrow.Author.Rules.{rules}
 use Rattle.completing.proofs.result_coercion.implementing.Goals as goal
 
 pub returns-in_default : goal.returns-in_default

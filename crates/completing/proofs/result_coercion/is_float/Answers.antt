@@ -5,7 +5,6 @@ use mathlib.Core.List.{[], ◌∷◌}
 use Rattle.graphql.specs.Json.{a_float}
 use Rattle.completing.specs.Judged.{is}
 use Rattle.completing.proofs.Sorts.{is_not}
-use borrow.Author.Rules.{rules}
 use Rattle.completing.proofs.result_coercion.is_float.Goals as goal
 
 pub returns-in-Float : goal.returns-in-Float

@@ -5,7 +5,6 @@ use mathlib.Core.List.{[], ◌∷◌}
 use Rattle.graphql.specs.Json.{a_string}
 use Rattle.completing.specs.Judged.{is}
 use Rattle.completing.proofs.Sorts.{is_not}
-use borrow.Author.Rules.{rules}
 use Rattle.completing.proofs.result_coercion.is_string.Goals as goal
 
 pub returns-in-String : goal.returns-in-String

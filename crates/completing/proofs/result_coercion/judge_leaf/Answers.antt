@@ -1,6 +1,5 @@
 -- A null, or a type that is named and a leaf at it. Assumes nothing.
 use Rattle.completing.proofs.Leaves.{leaf_null, leaf_typed, leaf_untyped}
-use borrow.Author.Rules.{rules}
 use Rattle.completing.proofs.result_coercion.judge_leaf.Goals as goal
 
 pub returns-in-Error : goal.returns-in-Error

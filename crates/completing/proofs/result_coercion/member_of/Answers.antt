@@ -1,6 +1,5 @@
 -- The union names the object type. Assumes nothing.
 use Rattle.completing.proofs.Types.{object_member, union_unknown}
-use borrow.Author.Rules.{rules}
 use Rattle.completing.proofs.result_coercion.member_of.Goals as goal
 
 pub returns-in_default : goal.returns-in_default

@@ -1,6 +1,5 @@
 -- By the reference, and by what is found of its name. Assumes nothing.
 use Rattle.completing.proofs.Types.{ref_defined, ref_list, ref_undefined, ref_unknown}
-use borrow.Author.Rules.{rules}
 use Rattle.completing.proofs.result_coercion.named_type.Goals as goal
 
 pub returns-in-Absent : goal.returns-in-Absent

@@ -1,5 +1,4 @@
 -- The test is the definition's. Assumes nothing.
-use borrow.Author.Rules.{rules}
 use Rattle.completing.proofs.result_coercion.null_at.Goals as goal
 
 pub returns-then-is_non_null : goal.returns-then-is_non_null

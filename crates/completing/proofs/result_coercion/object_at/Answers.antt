@@ -1,6 +1,5 @@
 -- By the kind of the type. Assumes nothing.
 use Rattle.completing.proofs.Types.{object_enum, object_input, object_own, object_scalar, object_unknown}
-use borrow.Author.Rules.{rules}
 use Rattle.completing.proofs.result_coercion.object_at.Goals as goal
 
 pub returns-in-Scalar : goal.returns-in-Scalar

@@ -1,6 +1,5 @@
 -- The type that is found, if its kind is that of objects. Assumes nothing.
 use Rattle.completing.proofs.Types.{object_absent, object_other, object_there}
-use borrow.Author.Rules.{rules}
 use Rattle.completing.proofs.result_coercion.object_named.Goals as goal
 
 pub returns-in_default : goal.returns-in_default

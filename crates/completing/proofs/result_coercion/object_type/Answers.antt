@@ -1,6 +1,5 @@
 -- A type that is named, and an object at it. Assumes nothing.
 use Rattle.completing.proofs.Types.{object_typed, object_untyped}
-use borrow.Author.Rules.{rules}
 use Rattle.completing.proofs.result_coercion.object_type.Goals as goal
 
 pub returns-in-Error : goal.returns-in-Error

@@ -1,7 +1,6 @@
 -- The numbers are the reserved names of the definition. Assumes nothing.
 use mathlib.Core.Path.{refl}
 use Rattle.completing.proofs.Leaves.{scalar_boolean, scalar_float, scalar_id, scalar_int, scalar_other, scalar_string}
-use borrow.Author.Rules.{rules}
 use Rattle.completing.proofs.result_coercion.scalar_takes.Goals as goal
 
 pub returns-in-1 : goal.returns-in-1

@@ -1,5 +1,4 @@
 -- The argument is not given, or it is given as null, as a variable or as another literal. Assumes nothing.
-use borrow.Author.Rules.{rules}
 use Rattle.input_coercion.proofs.Arguing.{arguing}
 use Rattle.input_coercion.proofs.arguments.coerce_argument.Goals as goal
 

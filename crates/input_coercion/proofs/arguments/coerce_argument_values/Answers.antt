@@ -1,8 +1,5 @@
 -- The arguments passed came to values; the first that did not ends it. Assumes nothing.
-use Prim.Native.Nat.{◌-◌}
 use borrow.Author.Rules.{rules}
-use Rattle.input_coercion.specs.Coerced.{of_argument}
-use Rattle.input_coercion.proofs.Going.{Going}
 use Rattle.input_coercion.proofs.Arguing.{listing}
 use Rattle.input_coercion.proofs.arguments.coerce_argument_values.Goals as goal
 

@@ -1,5 +1,4 @@
 -- There is a default, or the argument is missing, or it may be. Assumes nothing.
-use borrow.Author.Rules.{rules}
 use Rattle.input_coercion.proofs.Arguing.{defaults}
 use Rattle.input_coercion.proofs.arguments.default_argument.Goals as goal
 

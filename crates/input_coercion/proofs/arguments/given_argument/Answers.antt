@@ -1,5 +1,4 @@
 -- A name is a word of its column. Assumes nothing.
-use borrow.Author.Rules.{rules}
 use Rattle.rows.specs.Document.{given_at}
 use Rattle.input_coercion.specs.Coerced.{given_named}
 use Rattle.input_coercion.proofs.arguments.given_argument.Goals as goal

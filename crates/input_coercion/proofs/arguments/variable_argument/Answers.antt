@@ -1,5 +1,4 @@
 -- The variable is absent, null or another. Assumes nothing.
-use borrow.Author.Rules.{rules}
 use Rattle.input_coercion.proofs.Arguing.{variabled}
 use Rattle.input_coercion.proofs.arguments.variable_argument.Goals as goal
 

@@ -1,8 +1,5 @@
 -- Both functions, by one induction: the containers that may still be opened fall. Assumes nothing.
-use Prim.Native.Nat.{ℕ, ◌+◌, ◌*◌, ◌-◌, ◌<◌}
 use borrow.Author.Rules.{rules}
-use Rattle.input_coercion.specs.Coerced.{of_part}
-use Rattle.input_coercion.proofs.Going.{Going}
 use Rattle.input_coercion.proofs.Parts.{parting}
 use Rattle.input_coercion.proofs.check.+check_part_by_part_check_parts.Goals as goal
 

@@ -1,10 +1,8 @@
 -- A literal at a type, by one induction: the containers that may still be opened fall. Assumes nothing.
-use Prim.Native.Nat.{ℕ, ◌+◌, ◌*◌, ◌-◌, ◌<◌}
-use borrow.Author.Rules.{rules}
+use Prim.Native.Nat.{◌+◌, ◌*◌, ◌-◌}
 use Rattle.graphql.specs.Lookup.{rows_in}
 use Rattle.input_coercion.specs.Coerced.{of_value, of_field}
 use Rattle.input_coercion.proofs.Going.{Going}
-use Rattle.input_coercion.proofs.Walk.{valuing, itemizing, naming, shaping, fielding, opening, objecting}
 use Rattle.input_coercion.proofs.check.+coerce_argument_value_coerce_items_coerce_named_coerce_shape_input_field_input_fields_input_object.Given as goal
 
 abbrev pub decreases-coerce_argument_value : goal.decreases-coerce_argument_value

@@ -1,5 +1,4 @@
 -- The variable is absent, null or another. Assumes nothing.
-use borrow.Author.Rules.{rules}
 use Rattle.input_coercion.proofs.Variables.{inner}
 use Rattle.input_coercion.proofs.check.coerce_variable.Goals as goal
 

@@ -1,5 +1,4 @@
 -- The place is the literal's. Assumes nothing.
-use borrow.Author.Rules.{rules}
 use Rattle.input_coercion.proofs.check.fail_at.Goals as goal
 
 pub returns : goal.returns

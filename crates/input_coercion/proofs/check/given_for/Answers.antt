@@ -1,5 +1,4 @@
 -- A key is a word of its column. Assumes nothing.
-use borrow.Author.Rules.{rules}
 use Rattle.input_coercion.specs.Coerced.{given_for}
 use Rattle.input_coercion.proofs.check.given_for.Goals as goal
 

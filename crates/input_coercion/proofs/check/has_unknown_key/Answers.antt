@@ -1,8 +1,6 @@
 -- The keys passed have a field each; the first that has none ends the search. Assumes nothing.
-use Prim.Native.Nat.{◌-◌}
 use borrow.Author.Rules.{rules}
-use Rattle.lookup.proofs.Searching.{Seeking}
-use Rattle.input_coercion.proofs.Keys.{unknown, keys}
+use Rattle.input_coercion.proofs.Keys.{keys}
 use Rattle.input_coercion.proofs.check.has_unknown_key.Goals as goal
 
 pub loop-i-init : goal.loop-i-init

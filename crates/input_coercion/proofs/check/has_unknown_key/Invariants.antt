@@ -1,8 +1,7 @@
 -- The keys passed have a field each; the first that has none ends the search. Assumes nothing.
 use Prim.Native.Nat.{◌-◌}
-use borrow.Author.Rules.{rules}
 use Rattle.lookup.proofs.Searching.{Seeking}
-use Rattle.input_coercion.proofs.Keys.{unknown, keys}
+use Rattle.input_coercion.proofs.Keys.{unknown}
 use Rattle.input_coercion.proofs.check.has_unknown_key.Given as goal
 
 abbrev pub invariant-loop-i : goal.invariant-loop-i

@@ -1,5 +1,4 @@
 -- Each literal has its form. Assumes nothing.
-use borrow.Author.Rules.{rules}
 use Rattle.input_coercion.proofs.Leaves.{forms}
 use Rattle.input_coercion.proofs.check.literal_form.Goals as goal
 

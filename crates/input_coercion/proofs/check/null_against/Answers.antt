@@ -1,5 +1,4 @@
 -- A variable's node is null or another. Assumes nothing.
-use borrow.Author.Rules.{rules}
 use Rattle.input_coercion.proofs.Leaves.{against}
 use Rattle.input_coercion.proofs.check.null_against.Goals as goal
 

@@ -1,11 +1,9 @@
 -- The five functions of the walk, by one induction: the sets that may still be opened fall. Assumes nothing.
-use Prim.Native.Nat.{◌+◌, ◌*◌, ◌-◌}
 use native.Mathlib.Omega.{arith}
 use borrow.Author.Rules.{rules}
-use Rattle.introspection.proofs.Walk.{Going, walk_on, child_none, child_checked, field_same, field_deep, field_raised, a_field, a_spread, an_inline, an_unknown}
+use Rattle.introspection.proofs.Walk.{walk_on, child_none, child_checked, field_same, field_deep, field_raised, a_field, a_spread, an_inline, an_unknown}
 use Rattle.introspection.proofs.Walk.{mark_there, mark_kept, spread_undefined, again-deep, again-level, spread-stopped, spread-met}
 use Rattle.introspection.proofs.Walk.{set_full, set_begin, going_again, set_stopped, set_ended}
-use Prim.Native.Nat.{ℕ, ◌<◌}
 use Rattle.introspection.proofs.max_depth.+check_child_set_check_field_check_selection_check_selection_set_check_spread.Goals as goal
 
 ruleset childs = (child_none, child_checked, rules)

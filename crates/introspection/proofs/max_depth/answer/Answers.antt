@@ -1,7 +1,6 @@
 -- By the cases of the enum: the code is the outcome's, the depth and the place stand in the case. Assumes nothing.
 use mathlib.Core.Path.{refl}
 use Rattle.graphql.specs.Depth.{answered}
-use borrow.Author.Rules.{rules}
 use Rattle.introspection.proofs.max_depth.answer.Goals as goal
 
 pub returns-in-TooManySets : goal.returns-in-TooManySets

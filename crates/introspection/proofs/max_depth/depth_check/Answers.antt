@@ -1,7 +1,6 @@
 -- The table check says whether the tables are lawful; where they are, the walk needs no more of them. Assumes nothing.
 use Rattle.tables.specs.Tables.{tables}
 use Rattle.introspection.proofs.Reports.{report_unlawful, report_walkable, report_checked}
-use borrow.Author.Rules.{rules}
 use Rattle.introspection.proofs.max_depth.depth_check.Goals as goal
 
 pub returns-then-lawful-ne-LAWFUL : goal.returns-then-lawful-ne-LAWFUL

@@ -1,6 +1,5 @@
 -- Nothing is marked at first, so the walk comes to what the definition says with nothing remembered. Assumes nothing.
 use Rattle.introspection.proofs.Reports.{reported}
-use borrow.Author.Rules.{rules}
 use Rattle.introspection.proofs.max_depth.depth_of_operation.Goals as goal
 
 pub returns : goal.returns

@@ -1,6 +1,5 @@
 -- The loop over the fields: what was collected so far is what the definition collects of the fields passed. Assumes nothing.
-use Prim.Native.Nat.{◌-◌}
-use Rattle.planning.proofs.Merged.{Merging, merging}
+use Rattle.planning.proofs.Merged.{merging}
 use borrow.Author.Rules.{rules}
 use Rattle.planning.proofs.beneath.collect_children.Goals as goal
 

@@ -1,7 +1,6 @@
 -- The loop over the fields: what was collected so far is what the definition collects of the fields passed. Assumes nothing.
 use Prim.Native.Nat.{◌-◌}
-use Rattle.planning.proofs.Merged.{Merging, merging}
-use borrow.Author.Rules.{rules}
+use Rattle.planning.proofs.Merged.{Merging}
 use Rattle.planning.proofs.beneath.collect_children.Given as goal
 
 abbrev pub invariant-loop-i : goal.invariant-loop-i

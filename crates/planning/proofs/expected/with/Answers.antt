@@ -1,5 +1,4 @@
 -- By whether null may stand there. Assumes nothing.
-use borrow.Author.Rules.{rules}
 use Rattle.planning.proofs.expected.with.Goals as goal
 
 pub returns-then-nullable : goal.returns-then-nullable

@@ -1,6 +1,5 @@
 -- The groups passed have other keys. Assumes nothing.
-use Prim.Native.Nat.{◌-◌}
-use Rattle.planning.proofs.Words.{Seeking, seeking}
+use Rattle.planning.proofs.Words.{seeking}
 use borrow.Author.Rules.{rules}
 use Rattle.planning.proofs.groups.group_with.Goals as goal
 

@@ -1,7 +1,6 @@
 -- The groups passed have other keys. Assumes nothing.
 use Prim.Native.Nat.{◌-◌}
-use Rattle.planning.proofs.Words.{Seeking, seeking}
-use borrow.Author.Rules.{rules}
+use Rattle.planning.proofs.Words.{Seeking}
 use Rattle.planning.proofs.groups.group_with.Given as goal
 
 abbrev pub invariant-loop-i : goal.invariant-loop-i

@@ -1,8 +1,6 @@
 -- The fields passed stand in their rows. Assumes nothing.
-use Prim.Native.Nat.{◌-◌, ◌≤◌}
 use native.Mathlib.Omega.{arith}
 use lib.ListN.{length-set}
-use Rattle.planning.specs.Plans.{PutFields}
 use Rattle.planning.proofs.Words.{fielding}
 use borrow.Author.Rules.{rules}
 use Rattle.planning.proofs.groups.put_fields.Goals as goal

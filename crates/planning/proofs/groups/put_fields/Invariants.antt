@@ -1,10 +1,6 @@
 -- The fields passed stand in their rows. Assumes nothing.
 use Prim.Native.Nat.{◌-◌, ◌≤◌}
-use native.Mathlib.Omega.{arith}
-use lib.ListN.{length-set}
 use Rattle.planning.specs.Plans.{PutFields}
-use Rattle.planning.proofs.Words.{fielding}
-use borrow.Author.Rules.{rules}
 use Rattle.planning.proofs.groups.put_fields.Given as goal
 
 abbrev pub invariant-loop-i : goal.invariant-loop-i

@@ -1,6 +1,4 @@
 -- The groups of the fields passed stand. Assumes nothing.
-use Prim.Native.Nat.{◌-◌, ◌≤◌}
-use Rattle.planning.specs.Plans.{Grouping}
 use Rattle.planning.proofs.Grouped.{grouping}
 use borrow.Author.Rules.{rules}
 use Rattle.planning.proofs.groups.put_groups.Goals as goal

@@ -1,8 +1,6 @@
 -- The groups of the fields passed stand. Assumes nothing.
 use Prim.Native.Nat.{◌-◌, ◌≤◌}
 use Rattle.planning.specs.Plans.{Grouping}
-use Rattle.planning.proofs.Grouped.{grouping}
-use borrow.Author.Rules.{rules}
 use Rattle.planning.proofs.groups.put_groups.Given as goal
 
 abbrev pub invariant-loop-i : goal.invariant-loop-i

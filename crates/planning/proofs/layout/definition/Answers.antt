@@ -1,5 +1,4 @@
 -- The row of the group is that of its number behind the head. Assumes nothing.
-use borrow.Author.Rules.{rules}
 use Rattle.planning.proofs.layout.definition.Goals as goal
 
 pub returns : goal.returns

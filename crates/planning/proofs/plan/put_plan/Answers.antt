@@ -1,6 +1,5 @@
 -- The groups, the head and, where some group has several fields, the fields. Assumes nothing.
 use Rattle.planning.proofs.Standing.{plan_single, plan-several}
-use borrow.Author.Rules.{rules}
 use Rattle.planning.proofs.plan.put_plan.Goals as goal
 
 pub returns-then-groups-count : goal.returns-then-groups-count
