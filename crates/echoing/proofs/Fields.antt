@@ -2,7 +2,7 @@
 use mathlib.Core.Path.{◌≡◌, refl}
 use mathlib.Core.List.{List, [], ◌∷◌, ◌++◌, map, append_assoc}
 use mathlib.Core.Option.{Option, none, some}
-use Prim.Native.Nat.{ℕ, zero, suc, ◌+◌, ◌-◌, ◌≤◌, ◌<◌, max}
+use Prim.Native.Nat.{ℕ, zero, suc, ◌+◌, ◌-◌, ◌≤◌, ◌<◌}
 use native.Mathlib.Omega.{arith}
 use lib.ListN.{length}
 use Rattle.rows.specs.Limits.{most_fields}
@@ -17,7 +17,7 @@ use Rattle.codes.specs.declared.errors.FieldError.TheVariants as error
 use Rattle.tokens.specs.Escape.{quoted}
 use Rattle.writing.specs.Wrote.{Writes, Closes}
 use Rattle.writing.proofs.WritesLaws.{stay}
-use Rattle.graphql.specs.Run.{Path, M, pure, halt, in_order, ◌>>=◌}
+use Rattle.graphql.specs.Run.{Path, M, pure, in_order, ◌>>=◌}
 use Rattle.graphql.specs.Json.{Json, array, object, items, members, print, print_items, print_members, containers, containers_of_items, containers_of_members}
 use Rattle.graphql.specs.Lookup.{rows_from, rows_in, non_null}
 use Rattle.graphql.specs.Values.{opened, part_by_part}
@@ -27,7 +27,7 @@ use Rattle.input_coercion.specs.Coerced.{given_for, inside}
 use Rattle.input_coercion.proofs.Leaves.{not_found, is_found_lem}
 use Rattle.values.specs.declared.node.Put.{Put}
 use Rattle.values.specs.declared.node.Put.TheVariants.{At, TooFar}
-use Rattle.echoing.specs.Echo.{Comes, Shown, Shows, Echoes, EchoesFields, field_size, field_label, field_text, field_out, of_part, of_value, of_items, of_field, of_fields}
+use Rattle.echoing.specs.Echo.{Shows, Echoes, EchoesFields, field_size, field_label, field_text, field_out, of_part, of_value, of_items, of_field, of_fields}
 use Rattle.echoing.proofs.Comes.{made, comes_pure, comes_halt, not_failed}
 use Rattle.echoing.proofs.Leaves.{never}
 use Rattle.echoing.proofs.Loop.{largest, outs, behind, Going, going_begin, going_again, container_stopped, container_ended}

@@ -1,6 +1,6 @@
 -- In lawful tables the names of a field's arguments differ. Assumes nothing.
-use mathlib.Core.Path.{◌≡◌, refl, sym, ◌∙◌}
-use mathlib.Core.Bool.{true, false, not}
+use mathlib.Core.Path.{◌≡◌, sym}
+use mathlib.Core.Bool.{true, not}
 use Prim.Native.Nat.{ℕ, ◌+◌, ◌-◌, ◌≤◌, ◌<◌}
 use native.Mathlib.Omega.{arith}
 use borrow.Author.Tests.{eq-eqb}

@@ -2,7 +2,7 @@
 use mathlib.Core.Path.{◌≡◌, refl}
 use mathlib.Core.List.{List, [], ◌∷◌}
 use mathlib.Core.Option.{Option, none, some}
-use Prim.Native.Nat.{ℕ, suc, ◌≤◌}
+use Prim.Native.Nat.{ℕ, suc}
 use native.Mathlib.Omega.{arith}
 use lib.ListN.{length}
 use types.Run.{miss}
@@ -22,13 +22,12 @@ use Rattle.tokens.specs.Escape.{quoted}
 use Rattle.tokens.specs.Literal.{null_name}
 use Rattle.writing.specs.Wrote.{Writes}
 use Rattle.writing.proofs.WritesLaws.{cons, «then»}
-use Rattle.graphql.specs.Run.{Path, Choices, M, stop, done, pure, halt}
+use Rattle.graphql.specs.Run.{Choices, M, pure, halt}
 use Rattle.graphql.specs.Json.{Json, null, print, containers}
 use Rattle.graphql.specs.Lookup.{non_null, variable_named}
-use Rattle.graphql.specs.Values.{node_value, variable_value, part_by_part}
+use Rattle.graphql.specs.Values.{variable_value, part_by_part}
 use Rattle.graphql.specs.Coerce.{null_against, coerce_variable}
 use Rattle.lookup.specs.Found.{row_of}
-use Rattle.input_coercion.specs.Coerced.{Coercible}
 use Rattle.input_coercion.proofs.Leaves.{not_found, is_found_lem}
 use Rattle.values.specs.Put.{ended, Ends, Puts, PutsNode}
 use Rattle.values.specs.Room.{Within}
@@ -40,8 +39,8 @@ use Rattle.values.specs.declared.literal.PutLiteral.TheVariants as put-literal
 use Rattle.values.specs.contracts.literal.PutLiteral.{the_type}
 use Rattle.values.proofs.Room.{node_within, literal_fits}
 use Rattle.values.proofs.LiteralEnds.{stops, came_at}
-use Rattle.echoing.specs.Echo.{Comes, PutsOut, Shown, Shows, Echoes, field_label, of_part, of_variable, EchoesVariable}
-use Rattle.echoing.proofs.Comes.{comes_pure, comes_failed, not_failed}
+use Rattle.echoing.specs.Echo.{Comes, Shown, Shows, Echoes, field_label, of_part, of_variable, EchoesVariable}
+use Rattle.echoing.proofs.Comes.{comes_pure, not_failed}
 
 -- of a run that comes to no value nothing is asked
 pub never : {K A : Type 0} (size : A → ℕ) (out : A → List ℕ) (room : ℕ) (m : K → M A) (text : List ℕ) (at : ℕ)

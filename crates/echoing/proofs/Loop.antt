@@ -17,7 +17,7 @@ use Rattle.graphql.specs.Lookup.{rows_from}
 use Rattle.values.specs.declared.node.Put.{Put}
 use Rattle.values.specs.declared.node.Put.TheVariants.{At, TooFar}
 use Rattle.values.proofs.Closing.{closes_exactly}
-use Rattle.echoing.specs.Echo.{Comes, PutsOut, Shown, Shows}
+use Rattle.echoing.specs.Echo.{Comes, Shown, Shows}
 use Rattle.echoing.proofs.Comes.{Made, made, More, comes_none, comes_more, comes_long}
 
 unfoldable pub largest : {A : Type 0} → (size : A → ℕ) → List A → ℕ

@@ -26,7 +26,7 @@ use Rattle.graphql.specs.Run.{Path, M, pure, fail, when, in_order, ◌>>=◌}
 use Rattle.graphql.specs.Json.{Json}
 use Rattle.graphql.specs.Lookup.{rows_from, rows_in, find, variable_named}
 use Rattle.graphql.specs.Values.{variable_value, part_by_part, LiteralForm, literal_form, null_given, variable, shaped}
-use Rattle.graphql.specs.Coerce.{Arguments, argument_named, null_against, is_non_null, argument_error, valued, default_argument, variable_argument, literal_argument, given_argument, coerce_argument, coerce_argument_value, coerce_argument_values}
+use Rattle.graphql.specs.Coerce.{Arguments, argument_named, argument_error, valued, default_argument, variable_argument, literal_argument, given_argument, coerce_argument, coerce_argument_value, coerce_argument_values}
 use Rattle.lookup.specs.Found.{row_of}
 use Rattle.input_coercion.specs.Coerced.{form_meant, FormAt, given_named}
 use Rattle.input_coercion.specs.declared.check.Form.{Form}

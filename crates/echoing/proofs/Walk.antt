@@ -3,11 +3,10 @@ use mathlib.Core.Path.{◌≡◌, refl}
 use mathlib.Core.Bool.{Bool}
 use mathlib.Core.List.{List, [], ◌∷◌}
 use mathlib.Core.Option.{Option, none, some}
-use Prim.Native.Nat.{ℕ, zero, suc, ◌+◌, ◌≤◌}
+use Prim.Native.Nat.{ℕ, zero, suc}
 use types.Run.{miss}
 use borrow.Enum.Refused.{Among, opened, shut}
 use denote.Enum.Declared.{tag_of}
-use Rattle.rows.specs.Limits.{most_literals, most_fields}
 use Rattle.rows.specs.Schema.{type_ref_at, type_at}
 use Rattle.rows.specs.Json.{literal_at}
 use Rattle.rows.specs.declared.layout.Range.{Range}
@@ -25,9 +24,9 @@ use Rattle.graphql.specs.Run.{Path, M, pure, when}
 use Rattle.graphql.specs.Json.{Json, null, print, containers}
 use Rattle.graphql.specs.Lookup.{rows_in, non_null, type_named}
 use Rattle.graphql.specs.Values.{literal_form}
-use Rattle.graphql.specs.Coerce.{is_input_object, items_of, unknown_key, known_object, input_object, coerce_named, coerce_shape, coerce_literal, coerce_argument_value}
+use Rattle.graphql.specs.Coerce.{is_input_object, unknown_key, known_object, input_object, coerce_named, coerce_shape, coerce_literal, coerce_argument_value}
 use Rattle.lookup.specs.Found.{row_of}
-use Rattle.input_coercion.specs.Coerced.{shape_meant, form_meant, FormAt, ItemsAt, Coercible, inside}
+use Rattle.input_coercion.specs.Coerced.{shape_meant, FormAt, ItemsAt, Coercible, inside}
 use Rattle.input_coercion.specs.declared.check.Shape.{Shape}
 use Rattle.input_coercion.specs.declared.check.Shape.TheVariants as shape
 use Rattle.input_coercion.specs.declared.check.Form.{Form}
@@ -38,7 +37,7 @@ use Rattle.input_coercion.proofs.Walk.{form_shaped, listable, keyed_within, few_
 use Rattle.values.specs.Literals.{LiteralsParted}
 use Rattle.values.specs.declared.node.Put.{Put}
 use Rattle.values.specs.declared.node.Put.TheVariants.{At, TooFar}
-use Rattle.echoing.specs.Echo.{Comes, Shows, Echoes, EchoesVariable, EchoesFields, of_part, of_value, of_variable, of_items, of_named, of_shape, of_fields}
+use Rattle.echoing.specs.Echo.{Comes, Echoes, EchoesVariable, EchoesFields, of_part, of_value, of_variable, of_items, of_named, of_shape, of_fields}
 use Rattle.echoing.proofs.Comes.{comes_pure, comes_failed, not_failed}
 use Rattle.echoing.proofs.Leaves.{never, null_shown}
 use Rattle.echoing.proofs.Fields.{items_full, items_begin, items-again, items-stopped, items_ended, field_given, field_default_lem, field_absent, fields_full, fields_begin, fields-again, fields-stopped, fields-ended}

@@ -11,7 +11,7 @@ use Rattle.rows.specs.declared.layout.Optional.TheVariants.{Absent, Row}
 use Rattle.codes.specs.Outcome.{most_open}
 use Rattle.graphql.specs.Run.{Path, M}
 use Rattle.graphql.specs.Json.{Json}
-use Rattle.graphql.specs.Lookup.{rows_in, find}
+use Rattle.graphql.specs.Lookup.{find}
 use Rattle.graphql.specs.Values.{node_value, part_by_part, variable, literal_form}
 use Rattle.graphql.specs.Coerce.{Arguments, argument_named, coerce_argument_value, coerce_argument_values}
 use Rattle.echoing.specs.Echo.{Comes}

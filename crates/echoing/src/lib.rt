@@ -1,2 +1,4 @@
 // What an echoed argument is: where its value stands, and its text.
+#![tactic(auto)]
+
 pub mod echo;

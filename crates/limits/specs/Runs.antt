@@ -3,7 +3,7 @@
 use Rattle.std.specs.Prelude.{List, [], ◌∷◌, ◌++◌, ℕ, zero, suc, ◌+◌}
 use Prim.Native.String.{String}
 use Rattle.rows.specs.Ascii.{ascii}
-use Rattle.graphql.specs.Run.{Segment, name, index, Path, Choices, ErrorRecord}
+use Rattle.graphql.specs.Run.{name, index, ErrorRecord}
 use Rattle.rows.specs.Names.{'typename, 'schema}
 use Rattle.graphql.specs.Kit.{'Query, 'f, 'g, 'a, 'b, 'x, 'y, 'v, 'O, 'F, 'G, Row, Kit, refs, queries, arguments, sets, selections, given, fragments, nodes, literals, variables, answers, selection, literal, list_of, field, field_with, argument, argument_by, set, if_true, select, ask, ask_in, ask_with, spread, inline, inline_on, fragment, giving, null_literal, int_literal, list_literal, object_literal, variable, under, null_node, whole_number, string_node, array_node, skips, errs, leaf_of, list_answer, object_answer, echoes, :Int, :Int!, :[Int!], :String, :String!, :Any, :[Any], :O, :[O], :P, :Nope, own_ref, over, one, echo, echo_default, v_is, Case, error, f_fails, answered, refused_at, refuses}
 

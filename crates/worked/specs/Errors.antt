@@ -1,7 +1,6 @@
 -- Worked runs: each error code of document 01, with its place and path. The schema is the one in Kit; `{f}` asks for the only field of
 -- Query, and `x` is an argument that f answers at the custom scalar Any.
 use Rattle.std.specs.Prelude.{List, [], ◌∷◌, ◌++◌, ℕ, zero, suc}
-use Prim.Native.String.{String}
 use Rattle.graphql.specs.Run.{name, index, ErrorRecord}
 use Rattle.graphql.specs.Kit.{'Query, 'f, 'g, 'a, 'b, 'x, 'y, 'v, 'O, 'R, 'I, 'E, 'Nope, one_and_a_half, Row, Kit, refs, queries, arguments, sets, selections, nodes, answers, selection, definition, literal, list_of, field, field_with, argument, set, ask, ask_in, null_literal, int_literal, list_literal, object_literal, variable, under, null_node, false_node, true_node, whole_number, negative_number, float_node, string_node, escaped_node, array_node, object_node, under_text, errs, leaf_of, list_answer, object_answer, echoes, :Int, :Int!, :[Int!], :Float, :String, :Boolean, :ID, :Any, :E, :O, :[O], :I, :U, :P, :Nope, own_ref, over, one, echo, v_is, Case, error, f_fails, answered}
 

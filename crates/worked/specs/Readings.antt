@@ -1,11 +1,11 @@
 -- Worked runs: what document 01 means where it can be read two ways, each run named after the reading in docs/READINGS.md that it
 -- shows. Reading 3 is among the error codes, those about limits among the limits, 24 among the orders; a run each of 1 and 12 is told
 -- beside the cases. The schema is the one in Kit.
-use Rattle.std.specs.Prelude.{List, [], ◌∷◌, ◌++◌, ℕ, zero, suc}
+use Rattle.std.specs.Prelude.{List, [], ◌∷◌, ◌++◌, ℕ}
 use Prim.Native.String.{String}
 use Rattle.graphql.specs.Run.{name, index}
 use Rattle.rows.specs.Names.{'typename}
-use Rattle.graphql.specs.Kit.{'Query, 'f, 'g, 'a, 'b, 'x, 'y, 'v, 'Any, 'O, 'R, 'I, 'U, 'Nope, 'F, 'G, one_and_a_half, ten_to_400, Row, Kit, queries, arguments, sets, selections, given, fragments, nodes, literals, variables, answers, selection, definition, literal, field, field_with, argument, argument_by, set, if_false, if_true, if$, select, ask, ask_in, ask_with, spread, inline, inline_on, fragment, giving, null_literal, int_literal, float_literal, string_literal, list_literal, object_literal, enum_literal, variable, under, null_node, false_node, true_node, whole_number, string_node, array_node, skips, errs, leaf_of, list_answer, object_answer, echoes, :Int, :Int!, :[Int], :[Int!], :[Int]!, :[Int!]!, :[[Int]], :[[Int]!], :Float, :String!, :Any, :[Any], :E, :O, :I, :U, :P, :[P], :Nope, :[Nope], schema_without_string, over, one, echo, echo_default, v_is, Case, error, f_fails, answered, refuses}
+use Rattle.graphql.specs.Kit.{'Query, 'f, 'g, 'a, 'b, 'x, 'y, 'v, 'Any, 'O, 'R, 'I, 'U, 'Nope, 'F, 'G, one_and_a_half, ten_to_400, Row, Kit, queries, arguments, sets, selections, given, fragments, nodes, literals, variables, answers, selection, definition, literal, field, field_with, argument, argument_by, set, if_false, if$, select, ask, ask_in, ask_with, spread, inline, inline_on, fragment, giving, null_literal, int_literal, float_literal, string_literal, list_literal, object_literal, enum_literal, variable, under, null_node, false_node, true_node, whole_number, string_node, array_node, skips, errs, leaf_of, list_answer, object_answer, echoes, :Int, :Int!, :[Int], :[Int!], :[Int!]!, :[[Int]], :[[Int]!], :Float, :String!, :Any, :[Any], :E, :O, :I, :U, :P, :[P], :Nope, :[Nope], schema_without_string, over, one, echo, echo_default, v_is, Case, error, f_fails, answered, refuses}
 
 -- ---- types, lists, leaves
 

@@ -1,11 +1,6 @@
 -- A literal at a type, written, by one induction: the containers that may still be opened fall. Assumes nothing.
-use Prim.Native.Nat.{ℕ, ◌+◌, ◌*◌, ◌-◌, ◌<◌}
 use borrow.Author.Rules.{rules}
-use Rattle.graphql.specs.Json.{containers}
-use Rattle.graphql.specs.Lookup.{rows_in}
-use Rattle.echoing.specs.Echo.{field_size, field_out, of_value, of_field}
-use Rattle.echoing.proofs.Loop.{Going}
-use Rattle.echoing.proofs.Fields.{item_out, items-again, items-stopped, fields-again, fields-stopped}
+use Rattle.echoing.proofs.Fields.{items-again}
 use Rattle.input_coercion.proofs.Walk.{form_shaped, listable, keyed_within, few_declared}
 use Rattle.echoing.proofs.Walk.{literals_parted_lem, valuing, shaping, naming, itemizing, fielding, opening}
 use Rattle.echoing.proofs.echo.+put_coerced_put_input_field_put_input_object_put_items_put_named_put_shaped.Goals as goal

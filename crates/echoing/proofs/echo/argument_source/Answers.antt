@@ -1,5 +1,4 @@
 -- The argument has no definition; or it is not given, or given as a variable, or as another literal. Assumes nothing.
-use borrow.Author.Rules.{rules}
 use Rattle.echoing.proofs.Sources.{sourcing}
 use Rattle.echoing.proofs.echo.argument_source.Goals as goal
 

@@ -1,5 +1,4 @@
 -- A name is a word of its column. Assumes nothing.
-use borrow.Author.Rules.{rules}
 use Rattle.rows.specs.Schema.{argument_at}
 use Rattle.echoing.specs.Source.{definition_named}
 use Rattle.echoing.proofs.echo.definition_named.Goals as goal

@@ -1,5 +1,4 @@
 -- Its text is there, or the literal has no value. Assumes nothing.
-use borrow.Author.Rules.{rules}
 use Rattle.echoing.proofs.Leaves.{literals}
 use Rattle.echoing.proofs.echo.put_checked_literal.Goals as goal
 

@@ -1,5 +1,4 @@
 -- The variable is absent, or its node is written. Assumes nothing.
-use borrow.Author.Rules.{rules}
 use Rattle.echoing.proofs.Leaves.{variabled}
 use Rattle.echoing.proofs.echo.put_variable.Goals as goal
 

@@ -1,5 +1,4 @@
 -- The variable is absent, or it has a node. Assumes nothing.
-use borrow.Author.Rules.{rules}
 use Rattle.echoing.proofs.Sources.{variable_default, variable_node}
 use Rattle.echoing.proofs.echo.variable_source.Goals as goal
 

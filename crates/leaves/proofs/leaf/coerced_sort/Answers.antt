@@ -1,5 +1,4 @@
 -- Null, a container, or of its own sort. Assumes nothing.
-use borrow.Author.Rules.{rules}
 use Rattle.leaves.proofs.Sorts.{sorting}
 use Rattle.leaves.proofs.leaf.coerced_sort.Goals as goal
 

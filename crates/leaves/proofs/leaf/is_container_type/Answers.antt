@@ -1,5 +1,4 @@
 -- The type is no named one, or it is not defined, or of another kind, or an input object. Assumes nothing.
-use borrow.Author.Rules.{rules}
 use Rattle.leaves.proofs.Sorts.{containing}
 use Rattle.leaves.proofs.leaf.is_container_type.Goals as goal
 

@@ -1,5 +1,4 @@
 -- The sort of each kind of leaf. Assumes nothing.
-use borrow.Author.Rules.{rules}
 use Rattle.leaves.proofs.Sorts.{leafed}
 use Rattle.leaves.proofs.leaf.leaf_sort.Goals as goal
 

@@ -1,5 +1,4 @@
 -- The bytes of each kind of leaf. Assumes nothing.
-use borrow.Author.Rules.{rules}
 use Rattle.leaves.proofs.Strings.{spelling}
 use Rattle.leaves.proofs.leaf.leaf_string.Goals as goal
 

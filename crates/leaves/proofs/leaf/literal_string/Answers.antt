@@ -1,5 +1,4 @@
 -- A string, a name, or neither. Assumes nothing.
-use borrow.Author.Rules.{rules}
 use Rattle.leaves.proofs.Strings.{literaling}
 use Rattle.leaves.proofs.leaf.literal_string.Goals as goal
 

@@ -1,5 +1,4 @@
 -- A string or not. Assumes nothing.
-use borrow.Author.Rules.{rules}
 use Rattle.leaves.proofs.Strings.{noding}
 use Rattle.leaves.proofs.leaf.node_string.Goals as goal
 

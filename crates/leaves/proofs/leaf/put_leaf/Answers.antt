@@ -1,5 +1,4 @@
 -- The text of each kind of leaf. Assumes nothing.
-use borrow.Author.Rules.{rules}
 use Rattle.leaves.proofs.Puts.{putting}
 use Rattle.leaves.proofs.leaf.put_leaf.Goals as goal
 

@@ -1,5 +1,4 @@
 -- A word fits, and without a choice it is that of no word. Assumes nothing.
-use borrow.Author.Rules.{rules}
 use native.Mathlib.Omega.{arith}
 use Rattle.ordering.proofs.SpanLaws.{chosen_none}
 use Rattle.ordering.proofs.order.choose.Goals as goal

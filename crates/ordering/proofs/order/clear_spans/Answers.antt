@@ -1,9 +1,9 @@
 -- One after another is 0. Assumes nothing.
 use borrow.Author.Rules.{rules}
-use Prim.Native.Nat.{◌+◌, ◌-◌, ◌<◌}
+use Prim.Native.Nat.{◌+◌, ◌<◌}
 use native.Mathlib.Omega.{arith}
 use lib.ListN.{length}
-use Rattle.ordering.proofs.SpanLaws.{Clearing, clear_begin, clear_long, clear_again, clear_end}
+use Rattle.ordering.proofs.SpanLaws.{clear_begin, clear_long, clear_again, clear_end}
 use Rattle.ordering.proofs.order.clear_spans.Goals as goal
 
 pub loop-i-init : goal.loop-i-init

@@ -1,9 +1,6 @@
 -- One after another is 0. Assumes nothing.
-use borrow.Author.Rules.{rules}
-use Prim.Native.Nat.{◌+◌, ◌-◌, ◌<◌}
-use native.Mathlib.Omega.{arith}
-use lib.ListN.{length}
-use Rattle.ordering.proofs.SpanLaws.{Clearing, clear_begin, clear_long, clear_again, clear_end}
+use Prim.Native.Nat.{◌-◌}
+use Rattle.ordering.proofs.SpanLaws.{Clearing}
 use Rattle.ordering.proofs.order.clear_spans.Given as goal
 
 abbrev pub invariant-loop-i : goal.invariant-loop-i

@@ -1,8 +1,6 @@
 -- The sum is the definition's at each group. Assumes nothing.
-use borrow.Author.Rules.{rules}
-use Prim.Native.Nat.{◌-◌}
 use native.Mathlib.Omega.{arith}
-use Rattle.ordering.proofs.SpanLaws.{Adding, add_begin, add-again, add-end}
+use Rattle.ordering.proofs.SpanLaws.{add_begin, add-again, add-end}
 use Rattle.ordering.proofs.order.entry_start.Goals as goal
 
 pub returns-then-at-start : goal.returns-then-at-start

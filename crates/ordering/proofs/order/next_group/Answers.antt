@@ -1,5 +1,4 @@
 -- Where the groups taken are the first ones the choice itself says which; else the one that it says is looked for. Assumes nothing.
-use borrow.Author.Rules.{rules}
 use native.Mathlib.Omega.{arith}
 use Rattle.ordering.proofs.SpanLaws.{next_in_order, next_sought}
 use Rattle.ordering.proofs.order.next_group.Goals as goal

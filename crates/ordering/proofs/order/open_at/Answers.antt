@@ -1,6 +1,6 @@
 -- What is passed over is passed over by the definition. Assumes nothing.
 use native.Mathlib.Omega.{arith}
-use Rattle.ordering.proofs.SpanLaws.{Seeking, seek_begin, seek_found, seek_open, seek_taken, seek_end}
+use Rattle.ordering.proofs.SpanLaws.{seek_begin, seek_found, seek_open, seek_taken, seek_end}
 use Rattle.ordering.proofs.order.open_at.Goals.{then-spans-base-eq0+else-left-eq0, else-spans-base-eq0}
 use Rattle.ordering.proofs.order.open_at.Goals as goal
 
@@ -28,9 +28,9 @@ loop-i-smaller c = omega arith
 pub loop-i-preserved : goal.loop-i-preserved
 loop-i-preserved c =
     elim c.if-spans-base-eq0.branch [
-      then-spans-base-eq0+else-left-eq0 w ↦
+      | then-spans-base-eq0+else-left-eq0 w ↦
           rw w.left-is (seek_open c.loop-i.invariant c.loop-i-test.true w.if-spans-base-eq0.true w.if-left-eq0.false)
-    | else-spans-base-eq0 w ↦ rw w.left-is (seek_taken c.loop-i.invariant c.loop-i-test.true w.if-spans-base-eq0.false)
+      | else-spans-base-eq0 w ↦ rw w.left-is (seek_taken c.loop-i.invariant c.loop-i-test.true w.if-spans-base-eq0.false)
     ]
 
 pub returns : goal.returns

@@ -1,5 +1,4 @@
 -- One further where there is one. Assumes nothing.
-use borrow.Author.Rules.{rules}
 use native.Mathlib.Numerals.{add-one}
 use Rattle.ordering.proofs.SpanLaws.{past_some, past_none}
 use Rattle.ordering.proofs.order.past_choice.Goals as goal

@@ -1,5 +1,4 @@
 -- It is turned, and its span is put. Assumes nothing.
-use borrow.Author.Rules.{rules}
 use Rattle.ordering.proofs.SpanLaws.{puts_low, puts_else}
 use Rattle.ordering.proofs.order.put_in_place.Goals as goal
 

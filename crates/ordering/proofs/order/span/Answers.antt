@@ -1,5 +1,4 @@
 -- Of a text that fits, the end less the beginning and one more. Assumes nothing.
-use borrow.Author.Rules.{rules}
 use native.Mathlib.Numerals.{add-one}
 use Rattle.ordering.proofs.SpanLaws.{span_fits, span_empty, span_over}
 use Rattle.ordering.proofs.order.span.Goals as goal

@@ -9,7 +9,7 @@ returns-then-group-low c = turns_stay c.if-low-taken.true c.if-group-low.true
 pub returns : goal.returns
 returns c = turns_move
     (elim c.if-low-taken.branch [
-      then-low-taken+else-group-low w ↦ λ e k. w.if-group-low.false k
-    | else-low-taken w ↦ λ e k. w.if-low-taken.false e
+      | then-low-taken+else-group-low w ↦ λ e k. w.if-group-low.false k
+      | else-low-taken w ↦ λ e k. w.if-low-taken.false e
     ])
     c.entry_start.ensures c.turn_into_place.ensures

@@ -1,5 +1,4 @@
 -- Arm by arm. Assumes nothing.
-use borrow.Author.Rules.{rules}
 use Rattle.resolving.proofs.field.answer_of.Goals as goal
 
 pub returns-in-Error : goal.returns-in-Error

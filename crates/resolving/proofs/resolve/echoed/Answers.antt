@@ -1,6 +1,5 @@
 -- What is echoed is where the argument's value stands. Assumes nothing.
 use Rattle.resolving.proofs.Taking.{echo_absent, echo_node, echo_literal, echo_default_lem}
-use borrow.Author.Rules.{rules}
 use Rattle.resolving.proofs.resolve.echoed.Goals as goal
 
 pub returns-in-Absent : goal.returns-in-Absent

@@ -1,6 +1,5 @@
 -- Each answer is what the definition's resolver gives. Assumes nothing.
 use Rattle.resolving.proofs.Taking.{row_skip, row_error, row_leaf, row_list, row_object, row_echo, row_unknown}
-use borrow.Author.Rules.{rules}
 use Rattle.resolving.proofs.resolve.resolve_row.Goals as goal
 
 pub returns-in-Skip : goal.returns-in-Skip
