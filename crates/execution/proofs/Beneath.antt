@@ -1,17 +1,14 @@
 -- The set of an object answer: by the plan that there is, by one that is made, or by one that stands apart; or it cannot be collected. Assumes nothing.
-use mathlib.Core.Path.{◌≡◌, refl, sym, ap, ◌∙◌}
-use mathlib.Core.Logic.{⊎_elim}
-use mathlib.Core.List.{List, [], ◌∷◌}
-use Prim.Native.Nat.{ℕ, suc, ◌+◌, ◌*◌, ◌≤◌, ◌<◌}
+use mathlib.Core.Path.{◌≡◌, refl}
+use mathlib.Core.List.{List}
+use Prim.Native.Nat.{ℕ, ◌*◌}
 use native.Mathlib.Omega.{arith}
 use lib.ListN.{length, drop}
-use Rattle.rows.specs.Limits.{most_types}
 use Rattle.rows.specs.declared.layout.Range.{Range}
-use Rattle.codes.specs.Outcome.{too_far, too_many_fields}
-use Rattle.graphql.specs.Run.{Choices, Res, stop, halt, onward, ◌>>=◌}
+use Rattle.graphql.specs.Run.{Choices, Res, halt, onward, ◌>>=◌}
 use Rattle.graphql.specs.Request.{Request}
 use Rattle.graphql.specs.Complete.{merge_selection_sets, execute_selection_set}
-use Rattle.planning.specs.Plans.{members_of, group_count, most_words, Kept, Standing, Lent, Planning, Made, Stopped, Plannable, PlansFor, Lookable, Storable, beneath_group, PlansAlone}
+use Rattle.planning.specs.Plans.{members_of, Lent, Planning, Made, Stopped, Plannable, PlansFor, Lookable, Storable, beneath_group, PlansAlone}
 use Rattle.planning.specs.declared.plan.Planned.{Planned}
 use Rattle.planning.specs.declared.plan.Planned.TheVariants as planned
 use Rattle.walking.specs.Gives.{as_data, Gives}
@@ -24,7 +21,7 @@ use Rattle.walking.specs.declared.state.Done.{Done}
 use Rattle.walking.proofs.Ended.{stopped_gives}
 use Rattle.resolving.specs.Steps.{doing}
 use Rattle.execution.specs.Ends.{planned_to, done_apart, stop_code}
-use Rattle.execution.specs.Walk.{Ready, PlannedFor, Left, SetReady, ObjectReady, SetDone, ObjectDone}
+use Rattle.execution.specs.Walk.{Left, SetReady, ObjectReady, SetDone, ObjectDone}
 use Rattle.execution.proofs.Frame.{kept_all, left_same, left_then, left-ready, left-grouped, left-members}
 
 -- the tables of a request are its own

@@ -1,9 +1,9 @@
 -- The field of a group: what its plan says of it, and what it comes to. Assumes nothing.
-use mathlib.Core.Path.{◌≡◌, refl, sym, ap, ◌∙◌}
+use mathlib.Core.Path.{◌≡◌, ◌∙◌}
 use mathlib.Core.List.{List, []}
-use Prim.Native.Nat.{ℕ, suc, ◌+◌, ◌*◌, ◌≤◌, ◌<◌}
+use Prim.Native.Nat.{ℕ, ◌+◌, ◌*◌, ◌≤◌, ◌<◌}
 use native.Mathlib.Omega.{arith}
-use lib.ListN.{length, drop}
+use lib.ListN.{length}
 use Rattle.rows.specs.Names.{name_text}
 use Rattle.rows.specs.Document.{field_selection}
 use Rattle.rows.specs.declared.layout.Range.{Range}
@@ -13,7 +13,7 @@ use Rattle.graphql.specs.Data.{Val}
 use Rattle.graphql.specs.Collect.{Group}
 use Rattle.graphql.specs.Request.{Request}
 use Rattle.graphql.specs.Complete.{definition_of, field_name, execute_group}
-use Rattle.planning.specs.Plans.{word_at, first_of, group_count, members_of, rest, group_at, most_words, definition_code, schema}
+use Rattle.planning.specs.Plans.{word_at, first_of, members_of, rest, group_at, most_words, definition_code, schema}
 use Rattle.walking.specs.Paths.{path_of}
 use Rattle.walking.specs.declared.path.Path.{Path}
 use Rattle.walking.specs.declared.state.State.{State}

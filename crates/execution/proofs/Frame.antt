@@ -1,9 +1,8 @@
 -- What a call leaves behind: the plans that stood stand, the spans of the sets around are as before, and so the next call may be made. Assumes nothing.
-use mathlib.Core.Path.{◌≡◌, refl, sym, ◌∙◌}
+use mathlib.Core.Path.{◌≡◌, refl, ◌∙◌}
 use mathlib.Core.List.{List}
-use Prim.Native.Nat.{ℕ, suc, ◌+◌, ◌*◌, ◌≤◌, ◌<◌}
+use Prim.Native.Nat.{ℕ, ◌+◌, ◌*◌, ◌≤◌, ◌<◌}
 use native.Mathlib.Omega.{arith}
-use lib.ListN.{length, get_or}
 use Rattle.codes.specs.Outcome.{most_segments}
 use Rattle.graphql.specs.Request.{Request}
 use Rattle.planning.specs.Plans.{group_count, members_of, group_at, Kept, PlanOf, Standing}

@@ -2,20 +2,20 @@
 use mathlib.Core.Path.{◌≡◌, refl, sym, ap, ◌∙◌}
 use mathlib.Core.Bool.{Bool, not}
 use mathlib.Core.List.{List, [], ◌∷◌, ◌++◌}
-use Prim.Native.Nat.{ℕ, suc, ◌+◌, ◌≤◌, ◌<◌}
+use Prim.Native.Nat.{ℕ, suc, ◌+◌, ◌<◌}
 use native.Mathlib.Omega.{arith}
-use lib.ListN.{length, drop}
+use lib.ListN.{drop}
 use Rattle.rows.specs.declared.layout.Range.{Range}
 use Rattle.codes.specs.Outcome.{most_segments}
 use Rattle.graphql.specs.Run.{Choices, M, Res, pure, lowered, passed, ◌>>=◌, in_order}
-use Rattle.graphql.specs.Data.{Data, Val, val, list, entries}
+use Rattle.graphql.specs.Data.{Val, val, list, entries}
 use Rattle.graphql.specs.Lookup.{rows_in}
 use Rattle.graphql.specs.Collect.{Group}
 use Rattle.graphql.specs.Coerce.{Arguments}
 use Rattle.graphql.specs.Request.{Request}
 use Rattle.graphql.specs.Complete.{numbered, try_nullify, merge_selection_sets, complete_items, execute_selection_set}
 use Rattle.planning.specs.Plans.{members_of, group_at}
-use Rattle.walking.specs.Gives.{as_data, as_value, as_entry, moved_to, Gives}
+use Rattle.walking.specs.Gives.{as_entry, Gives}
 use Rattle.walking.specs.Settled.{settled}
 use Rattle.walking.specs.Paths.{segment_of, path_of}
 use Rattle.walking.specs.declared.path.Path.{Path}
@@ -23,7 +23,6 @@ use Rattle.walking.specs.declared.state.State.{State}
 use Rattle.walking.specs.declared.state.Done.{Done}
 use Rattle.walking.proofs.Ended.{text_long, try_settled}
 use Rattle.resolving.specs.Steps.{doing, contained, Deepens, Steps}
-use Rattle.resolving.specs.declared.field.Container.{Container}
 use Rattle.resolving.specs.declared.field.Container.TheVariants as container
 use Rattle.resolving.specs.declared.field.Deeper.{Deeper}
 use Rattle.resolving.specs.declared.field.Step.{Step}

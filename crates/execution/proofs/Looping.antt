@@ -1,23 +1,20 @@
 -- The loop over the items of a list, with the plans that it leaves behind. Assumes nothing.
-use mathlib.Core.Path.{◌≡◌, refl, sym, ap, ◌∙◌}
-use mathlib.Core.List.{List, [], ◌∷◌, ◌++◌}
-use Prim.Native.Nat.{ℕ, zero, suc, ◌+◌, ◌-◌, ◌≤◌, ◌<◌}
+use mathlib.Core.Path.{◌≡◌, refl, ap, ◌∙◌}
+use mathlib.Core.List.{List, [], ◌∷◌}
+use Prim.Native.Nat.{ℕ, zero, suc, ◌+◌, ◌≤◌, ◌<◌}
 use native.Mathlib.Omega.{arith}
 use lib.ListN.{length, drop}
-use Rattle.rows.specs.Limits.{most_answers}
 use Rattle.rows.specs.declared.layout.Range.{Range}
-use Rattle.codes.specs.Outcome.{most_segments}
-use Rattle.writing.specs.Wrote.{Wrote, Closes}
-use Rattle.graphql.specs.Run.{Choices, M, index}
+use Rattle.writing.specs.Wrote.{Closes}
+use Rattle.graphql.specs.Run.{M}
 use Rattle.graphql.specs.Data.{Val}
 use Rattle.graphql.specs.Lookup.{rows_from, rows_in}
 use Rattle.graphql.specs.Collect.{Group}
 use Rattle.graphql.specs.Coerce.{Arguments}
 use Rattle.graphql.specs.Request.{Request}
-use Rattle.graphql.specs.Complete.{an_item, numbered}
+use Rattle.graphql.specs.Complete.{numbered}
 use Rattle.planning.specs.Plans.{group_at}
 use Rattle.walking.specs.Gives.{as_value, as_entry, moved_to, Gives}
-use Rattle.walking.specs.Paths.{path_of}
 use Rattle.walking.specs.declared.path.Path.{Path}
 use Rattle.walking.specs.declared.state.State.{State}
 use Rattle.walking.specs.declared.state.Kind.{Kind}

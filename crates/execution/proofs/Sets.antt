@@ -1,21 +1,20 @@
 -- The loop over the groups of a set, with the plans that it leaves behind. Assumes nothing.
-use mathlib.Core.Path.{◌≡◌, refl, sym, ap, ◌∙◌}
+use mathlib.Core.Path.{◌≡◌, refl, sym, ◌∙◌}
 use mathlib.Core.List.{List, []}
-use Prim.Native.Nat.{ℕ, suc, ◌+◌, ◌*◌, ◌-◌, ◌≤◌, ◌<◌}
+use Prim.Native.Nat.{ℕ, ◌+◌, ◌*◌, ◌≤◌, ◌<◌}
 use native.Mathlib.Omega.{arith}
 use lib.ListN.{length, drop, get_or}
 use Rattle.rows.specs.Names.{name_text}
 use Rattle.rows.specs.declared.layout.Range.{Range}
-use Rattle.codes.specs.Outcome.{most_segments, most_collected}
 use Rattle.writing.specs.Wrote.{Closes}
 use Rattle.graphql.specs.Run.{Res}
 use Rattle.graphql.specs.Data.{Data}
 use Rattle.graphql.specs.Collect.{Group}
 use Rattle.graphql.specs.Request.{Request}
 use Rattle.graphql.specs.Complete.{execute_selection_set}
-use Rattle.planning.specs.Plans.{group_count, group_at, groups_at, PlanOf}
+use Rattle.planning.specs.Plans.{group_count, groups_at, PlanOf}
 use Rattle.planning.proofs.Definitions.{groups_length, groups_get}
-use Rattle.walking.specs.Gives.{as_data, as_entry, moved_to, Gives}
+use Rattle.walking.specs.Gives.{as_entry, moved_to, Gives}
 use Rattle.walking.specs.Settled.{passed_list}
 use Rattle.walking.specs.Paths.{path_of}
 use Rattle.walking.specs.declared.path.Path.{Path}

@@ -5,7 +5,7 @@ use Rattle.rows.specs.Limits.{most_types, most_answers}
 use Rattle.rows.specs.Names.{name_text}
 use Rattle.rows.specs.declared.layout.Range.{Range}
 use Rattle.codes.specs.Outcome.{most_collected, most_segments}
-use Rattle.graphql.specs.Run.{Choices, M, pure, index, in_order, ◌>>=◌}
+use Rattle.graphql.specs.Run.{M, pure, index, in_order, ◌>>=◌}
 use Rattle.graphql.specs.Data.{Val, val, list, entries}
 use Rattle.graphql.specs.Lookup.{rows_in}
 use Rattle.graphql.specs.Collect.{Group}

@@ -1,3 +1,5 @@
 // Selection sets, lists and objects: the cycle of the walk.
+#![tactic(auto)]
+
 pub mod ends;
 pub mod execution;

@@ -20,7 +20,7 @@ use Rattle.rows.proofs.Every.{and_right}
 use Rattle.rows.specs.contracts.answers.Answer.{the_type as answers}
 use Rattle.rules.specs.Rows.{is_row}
 use Rattle.rules.specs.Schema.{object_kind}
-use Rattle.tables.specs.Tables.{Tables, tables}
+use Rattle.tables.specs.Tables.{Tables}
 use Rattle.tables.specs.Lawful.{lawful}
 use Rattle.tables.proofs.Facts.{root_is_object}
 use Rattle.codes.specs.Outcome.{too_far, too_many_fields}

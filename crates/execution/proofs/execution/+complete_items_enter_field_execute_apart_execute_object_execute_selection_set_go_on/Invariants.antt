@@ -1,16 +1,8 @@
 -- The functions of the walk, by one induction: the segments that a path may still have fall. Assumes nothing.
-use mathlib.Core.Path.{refl}
 use Prim.Native.Nat.{◌+◌, ◌*◌, ◌-◌}
-use native.Mathlib.Omega.{arith}
-use borrow.Author.Rules.{rules}
 use Rattle.resolving.specs.Sound.{asking}
-use Rattle.execution.proofs.Looping.{Itemizing, items_begin, items_itemizable, items_numbered, items_ready, items-again, items-lost, items_ended}
-use Rattle.execution.proofs.Entering.{field_first, field_second, field_small, field_row, field_own, field_ready, field_done}
-use Rattle.execution.proofs.Beneath.{object_plannable, object-set-ready, object-set, object-apart-ready, object-apart, object_stops}
-use Rattle.execution.proofs.Beneath.{apart_lookable, apart_storable, apart-set-ready, apart-set, apart_stops}
-use Rattle.execution.proofs.Sets.{Grouping, set_there, set_spans, set_text, set_errors, set_begin, set-tally, set-field-ready, set_room, set-lost, set_again, set_ended}
-use Rattle.execution.proofs.Going.{go_finished, go_roomy, go-list-ready, go-object-ready, go_list, go_object}
-use Prim.Native.Nat.{ℕ, ◌<◌}
+use Rattle.execution.proofs.Looping.{Itemizing}
+use Rattle.execution.proofs.Sets.{Grouping}
 use Rattle.execution.proofs.execution.+complete_items_enter_field_execute_apart_execute_object_execute_selection_set_go_on.Given as goal
 
 abbrev pub decreases-complete_items : goal.decreases-complete_items

@@ -1,7 +1,7 @@
 -- The words that are left are those of the records that are left. The measure is how many words are left. Assumes nothing.
-use Prim.Native.Nat.{◌+◌, ◌-◌, ◌≤◌}
+use Prim.Native.Nat.{◌+◌}
 use native.Mathlib.Omega.{arith}
-use Rattle.running.proofs.Counting.{Counting, counting_begin, counting_again, counting_end}
+use Rattle.running.proofs.Counting.{counting_begin, counting_again, counting_end}
 use Rattle.running.proofs.report.record_count.Goals as goal
 
 pub loop-at-init : goal.loop-at-init

@@ -1,7 +1,6 @@
 -- The words that are left are those of the records that are left. The measure is how many words are left. Assumes nothing.
-use Prim.Native.Nat.{◌+◌, ◌-◌, ◌≤◌}
-use native.Mathlib.Omega.{arith}
-use Rattle.running.proofs.Counting.{Counting, counting_begin, counting_again, counting_end}
+use Prim.Native.Nat.{◌-◌, ◌≤◌}
+use Rattle.running.proofs.Counting.{Counting}
 use Rattle.running.proofs.report.record_count.Given as goal
 
 -- a path is no longer than a word says, so that the position stays a number that can be added to

@@ -1,6 +1,5 @@
 -- Both buffers are cleared from their beginning on. Assumes nothing.
 use Rattle.running.proofs.Ended.{refuse_reports}
-use borrow.Author.Rules.{rules}
 use Rattle.running.proofs.report.refuse.Goals as goal
 
 pub returns : goal.returns

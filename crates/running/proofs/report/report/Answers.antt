@@ -1,6 +1,5 @@
 -- The text against its buffer, then the records against theirs. Assumes nothing.
 use Rattle.running.proofs.Ended.{report_text_too_long, report_records_too_long, report_fits}
-use borrow.Author.Rules.{rules}
 use Rattle.running.proofs.report.report.Goals as goal
 
 pub returns-then-text-at : goal.returns-then-text-at

@@ -1,6 +1,5 @@
 -- Done, stopped or failed: the walk says which it was. Assumes nothing.
 use Rattle.running.proofs.Ended.{end_placed, end_stopped, end_failed}
-use borrow.Author.Rules.{rules}
 use Rattle.running.proofs.report.report_end.Goals as goal
 
 pub returns-in_default : goal.returns-in_default

@@ -1,6 +1,5 @@
 -- The operation's plan, and then its groups. Assumes nothing.
 use Rattle.running.proofs.Executing.{operation_storable, stopped_before, operation-ready, operation-executed}
-use borrow.Author.Rules.{rules}
 use Rattle.running.proofs.run.execute_operation.Goals as goal
 
 pub plan_operation-planned-requires : goal.plan_operation-planned-requires

@@ -1,6 +1,5 @@
 -- Each test says which code it is. Assumes nothing.
 use Rattle.running.proofs.Refusing.{refusal_tables, refusal-sizes, refusal-schema, refusal-none}
-use borrow.Author.Rules.{rules}
 use Rattle.running.proofs.run.refusal.Goals as goal
 
 pub returns-then-code-ne-LAWFUL : goal.returns-then-code-ne-LAWFUL

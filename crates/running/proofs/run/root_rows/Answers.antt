@@ -1,6 +1,5 @@
 -- Any answer but an object has no rows. Assumes nothing.
 use Rattle.running.proofs.Executing.{rows_object, rows_other}
-use borrow.Author.Rules.{rules}
 use Rattle.running.proofs.run.root_rows.Goals as goal
 
 pub returns-in-Object : goal.returns-in-Object

@@ -1,6 +1,5 @@
 -- With no choices each set takes its groups as they stand. Assumes nothing.
 use Rattle.graphql.specs.Report.{report_in_order}
-use borrow.Author.Rules.{rules}
 use Rattle.running.proofs.run.run.Goals as goal
 
 pub returns : goal.returns

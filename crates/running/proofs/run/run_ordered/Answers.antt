@@ -1,6 +1,5 @@
 -- Refused before the walk, or walked and reported. Assumes nothing.
 use Rattle.running.proofs.Refusing.{report_refused, tables_lawful, sizes_kept, report_answered}
-use borrow.Author.Rules.{rules}
 use Rattle.running.proofs.run.run_ordered.Goals as goal
 
 pub returns-then-code-ne0 : goal.returns-then-code-ne0

@@ -1,6 +1,5 @@
 -- The code says why. Assumes nothing.
 use Rattle.running.proofs.Executing.{stopped_so}
-use borrow.Author.Rules.{rules}
 use Rattle.running.proofs.run.stopped_at_start.Goals as goal
 
 pub returns : goal.returns
