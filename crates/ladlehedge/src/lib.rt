@@ -1,6 +1,8 @@
 // The public entries as C functions, for a static library. Each is a call of the entry that it is named after and promises
 // what that entry promises; nothing is asked of the caller but what C itself asks (include/ladlehedge.h). A slice is passed as
 // a pointer and then a length.
+#![tactic(auto)]
+
 ghost use Rattle.std.specs.Prelude.{◌≡◌, length};
 ghost use Rattle.tables.specs.Tables.{tables};
 ghost use Rattle.tables.specs.Lawful.{table_code};
