@@ -14,6 +14,9 @@ use table_file::{layout, pool_bytes, table};
 use verdict::runs::run_by_choices;
 use verdict::say;
 
+// As many bytes of an error's path are told.
+const PATH_BYTES: usize = 4096;
+
 // The first bytes; all of them, where there are fewer.
 fn first_bytes(text: &[u8], count: usize) -> &[u8] {
     if count <= text.len() {
@@ -25,7 +28,7 @@ fn first_bytes(text: &[u8], count: usize) -> &[u8] {
 
 // The line of an error: its path, what is wrong in words and by its code, and the place.
 fn print_error(out: &impl Print, pool: &[u8], names: &[u32], record: &[u32]) {
-    let mut path = [0u8; 4096];
+    let mut path = [0u8; PATH_BYTES];
     let length = put_path(&mut path, pool, names, records::segments(record));
     let code = word_at(record, records::CODE);
     say::words(out, b"  ");

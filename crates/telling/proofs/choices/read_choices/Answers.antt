@@ -1,8 +1,5 @@
 -- Each turn takes a choice, of which there is room for so many. Assumes nothing.
-use borrow.Author.Rules.{rules}
-use mathlib.Core.Path.{◌≡◌}
-use Prim.Native.Nat.{◌≤◌, ◌-◌}
-use lib.ListN.{length, length-set}
+use lib.ListN.{length-set}
 use native.Mathlib.Omega.{arith}
 use Rattle.telling.proofs.choices.read_choices.Goals as goal
 

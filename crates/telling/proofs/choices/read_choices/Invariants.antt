@@ -1,9 +1,7 @@
 -- Each turn takes a choice, of which there is room for so many. Assumes nothing.
-use borrow.Author.Rules.{rules}
 use mathlib.Core.Path.{◌≡◌}
 use Prim.Native.Nat.{◌≤◌, ◌-◌}
-use lib.ListN.{length, length-set}
-use native.Mathlib.Omega.{arith}
+use lib.ListN.{length}
 use Rattle.telling.proofs.choices.read_choices.Given as goal
 
 abbrev pub invariant-loop-count : goal.invariant-loop-count

@@ -1,7 +1,6 @@
 -- A dot and then the segment are one text. Assumes nothing.
 use Rattle.writing.proofs.WritesLaws.{cons}
 use Rattle.telling.specs.Told.{told_behind}
-use borrow.Author.Rules.{rules}
 use Rattle.telling.proofs.lines.put_behind.Goals as goal
 
 pub returns : goal.returns

@@ -1,9 +1,7 @@
 -- Each turn tells a segment, which leaves the rest to be told. Assumes nothing.
 use Prim.Native.Nat.{◌-◌}
 use lib.ListN.{length}
-use native.Mathlib.Omega.{arith}
-use borrow.Author.Rules.{rules}
-use Rattle.telling.proofs.Telling.{Telling, tell_begin, tell-again, tell-end}
+use Rattle.telling.proofs.Telling.{Telling}
 use Rattle.telling.proofs.lines.put_below.Given as goal
 
 abbrev pub invariant-loop-i : goal.invariant-loop-i

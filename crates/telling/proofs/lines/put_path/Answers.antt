@@ -2,7 +2,6 @@
 use mathlib.Core.Path.{sym}
 use Rattle.writing.proofs.WritesLaws.{same, stay}
 use Rattle.telling.proofs.Telling.{path_short, path-told}
-use borrow.Author.Rules.{rules}
 use Rattle.telling.proofs.lines.put_path.Goals as goal
 
 pub returns-then-segments-lt2 : goal.returns-then-segments-lt2

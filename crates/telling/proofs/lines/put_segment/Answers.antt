@@ -1,7 +1,6 @@
 -- The test says which of the two a segment is. Assumes nothing.
 use Rattle.writing.proofs.WritesLaws.{same}
 use Rattle.telling.proofs.Telling.{name_told, index_told}
-use borrow.Author.Rules.{rules}
 use Rattle.telling.proofs.lines.put_segment.Goals as goal
 
 pub returns-then-kind-eq-NAME : goal.returns-then-kind-eq-NAME

@@ -1,5 +1,4 @@
 -- The tests say whether all of the record is there. Assumes nothing.
-use native.Mathlib.Omega.{arith}
 use borrow.Author.Rules.{rules}
 use Rattle.telling.specs.Told.{record_end}
 use Rattle.telling.proofs.records.record_end.Goals as goal

@@ -3,7 +3,6 @@ use Prim.Native.Nat.{◌*◌}
 use native.Mathlib.Nat.{add-sub_cancel_left}
 use Rattle.rows.proofs.Cells.{text_cut, text_none}
 use Rattle.telling.specs.Told.{segments_in}
-use borrow.Author.Rules.{rules}
 use Rattle.telling.proofs.records.segments.Goals as goal
 
 pub returns-then-size-words : goal.returns-then-size-words

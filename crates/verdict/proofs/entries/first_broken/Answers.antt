@@ -1,6 +1,5 @@
 -- The words lent are those that the file holds. Assumes nothing.
 use Rattle.verdict.proofs.Held.{held_by}
-use borrow.Author.Rules.{rules}
 use Rattle.verdict.proofs.entries.first_broken.Goals as goal
 
 pub returns : goal.returns

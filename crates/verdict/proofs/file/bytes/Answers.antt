@@ -1,7 +1,6 @@
 -- A length beyond the text is at odds with the claim. Assumes nothing.
 use lib.ListN.{length-take}
 use native.Mathlib.Omega.{arith}
-use borrow.Author.Rules.{rules}
 use Rattle.verdict.proofs.file.bytes.Goals as goal
 
 pub returns-then-length-gt-ROOM : goal.returns-then-length-gt-ROOM

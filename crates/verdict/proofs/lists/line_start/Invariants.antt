@@ -1,5 +1,4 @@
 -- No line begins past the list's end. Assumes nothing.
-use borrow.Author.Rules.{rules}
 use Prim.Native.Nat.{◌≤◌, ◌-◌}
 use lib.ListN.{length}
 use Rattle.verdict.proofs.lists.line_start.Given as goal
