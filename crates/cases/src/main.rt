@@ -1,4 +1,6 @@
 // "Runs that settle a reading": document 01's cases A to N, run. A case's tables are a table file (docs/TABLES.md).
+#![tactic(auto)]
+
 ghost use Rattle.std.specs.Prelude.{◌≤◌};
 
 use codes::report::Reported;

@@ -1,6 +1,8 @@
 // ladle check FILE..: whether the tables of a table file are lawful, and if not, why not.
 // ladle depth FILE..: how deep its operation goes.
 // ladle run FILE..: what the operation is answered.
+#![tactic(auto)]
+
 mod about;
 mod arguments;
 mod explain;

@@ -3,6 +3,8 @@
 // A case is a line `@ LABEL` and then a table file. Where a line `?` with numbers stands between them, a run is asked for: with a text
 // buffer of so many bytes, an error buffer of so many words, and these choices. What stands in a file before its first case stands in front
 // of every case's table file.
+#![tactic(auto)]
+
 mod cases;
 mod numbers;
 mod runs;

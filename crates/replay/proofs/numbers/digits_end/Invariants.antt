@@ -1,5 +1,4 @@
 -- The place stays between where it began and the line's end. Assumes nothing.
-use borrow.Author.Rules.{rules}
 use Prim.Native.Nat.{◌≤◌, ◌-◌}
 use lib.ListN.{length}
 use Rattle.replay.proofs.numbers.digits_end.Given as goal

@@ -1,8 +1,5 @@
 -- Each turn leaves a byte behind, or a number's digits. Assumes nothing.
 use borrow.Author.Rules.{rules}
-use mathlib.Core.Path.{◌≡◌}
-use Prim.Native.Nat.{◌≤◌, ◌-◌}
-use lib.ListN.{length}
 use Rattle.replay.proofs.numbers.read_numbers.Goals as goal
 
 pub loop-at-preserved-then-at-end : goal.loop-at-preserved-then-at-end

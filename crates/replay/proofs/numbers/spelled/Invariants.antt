@@ -1,5 +1,4 @@
 -- Nine digits fit a word. Assumes nothing.
-use borrow.Author.Rules.{rules}
 use Prim.Native.Nat.{◌≤◌, ◌-◌}
 use lib.ListN.{length}
 use Rattle.replay.proofs.numbers.spelled.Given as goal
