@@ -6,12 +6,6 @@ use Rattle.collecting.proofs.fragments.does_fragment_type_apply.Goals as goal
 pub returns-in_default : goal.returns-in_default
 returns-in_default c = search (applying, rules)
 
-pub lists_name-requires : goal.lists_name-requires
-lists_name-requires c = search (applying, rules)
-
-pub lists_name-requires-in-Union : goal.lists_name-requires-in-Union
-lists_name-requires-in-Union c = search (applying, rules)
-
 pub returns-in-Object : goal.returns-in-Object
 returns-in-Object c = search (applying, rules)
 

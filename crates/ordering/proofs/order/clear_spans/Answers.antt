@@ -9,21 +9,12 @@ use Rattle.ordering.proofs.order.clear_spans.Goals as goal
 pub loop-i-init : goal.loop-i-init
 loop-i-init c = clear_begin c.requires
 
-pub overflow_add-spans : goal.overflow_add-spans
-overflow_add-spans c = omega arith
-
 pub offset_bounds-spans-base : goal.offset_bounds-spans-base
 offset_bounds-spans-base c = let h : c.args.base + c.loop-i.i < length c.loop-i.spans =
     omega (arith, clear_long c.loop-i.invariant) in search rules
 
 pub bounds-spans-base : goal.bounds-spans-base
 bounds-spans-base c = omega (arith, clear_long c.loop-i.invariant)
-
-pub overflow_add-i : goal.overflow_add-i
-overflow_add-i c = omega arith
-
-pub loop-i-smaller : goal.loop-i-smaller
-loop-i-smaller c = omega arith
 
 pub loop-i-preserved : goal.loop-i-preserved
 loop-i-preserved c = clear_again c.loop-i.invariant c.loop-i-test.true

@@ -1,5 +1,4 @@
 -- What is passed over is passed over by the definition. Assumes nothing.
-use native.Mathlib.Omega.{arith}
 use Rattle.ordering.proofs.SpanLaws.{seek_begin, seek_found, seek_open, seek_taken, seek_end}
 use Rattle.ordering.proofs.order.open_at.Goals.{then-spans-base-eq0+else-left-eq0, else-spans-base-eq0}
 use Rattle.ordering.proofs.order.open_at.Goals as goal
@@ -7,23 +6,8 @@ use Rattle.ordering.proofs.order.open_at.Goals as goal
 pub loop-i-init : goal.loop-i-init
 loop-i-init c = seek_begin c.requires.0 c.requires.1 c.requires.2 c.requires.3
 
-pub overflow_add-base : goal.overflow_add-base
-overflow_add-base c = omega arith
-
-pub bounds-spans-base : goal.bounds-spans-base
-bounds-spans-base c = omega arith
-
 pub returns-then-left-eq0 : goal.returns-then-left-eq0
 returns-then-left-eq0 c = seek_found c.loop-i.invariant c.loop-i-test.true c.if-spans-base-eq0.true c.if-left-eq0.true
-
-pub overflow_sub-left : goal.overflow_sub-left
-overflow_sub-left c = omega arith
-
-pub overflow_add-i : goal.overflow_add-i
-overflow_add-i c = omega arith
-
-pub loop-i-smaller : goal.loop-i-smaller
-loop-i-smaller c = omega arith
 
 pub loop-i-preserved : goal.loop-i-preserved
 loop-i-preserved c =

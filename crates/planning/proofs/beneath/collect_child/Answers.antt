@@ -6,8 +6,5 @@ use Rattle.planning.proofs.beneath.collect_child.Goals as goal
 pub returns-then-field-eq0 : goal.returns-then-field-eq0
 returns-then-field-eq0 c = search (child, rules)
 
-pub collect_fields-requires : goal.collect_fields-requires
-collect_fields-requires c = search (child, rules)
-
 pub returns : goal.returns
 returns c = search (child, rules)

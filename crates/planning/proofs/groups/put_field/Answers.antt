@@ -1,11 +1,7 @@
 -- To the group that has the key, or to a new one. Assumes nothing.
-use Rattle.planning.proofs.Grouped.{word_fits, name_fits, key_fits, field-old, field-new}
+use Rattle.planning.proofs.Grouped.{name_fits, key_fits, field-old, field-new}
 use native.Mathlib.Omega.{arith}
-use borrow.Author.Rules.{rules}
 use Rattle.planning.proofs.groups.put_field.Goals as goal
-
-pub overflow_cast-selection : goal.overflow_cast-selection
-overflow_cast-selection c = search (word_fits, rules)
 
 pub returns-then-group-groups : goal.returns-then-group-groups
 returns-then-group-groups c = field-old c.args.i c.requires.0 c.field_selection-field.ensures c.group_with-group.ensures c.if-group-groups.true

@@ -14,8 +14,5 @@ bounds-plans-first-in-loop-i c = simp length-set (omega arith)
 pub loop-i-preserved : goal.loop-i-preserved
 loop-i-preserved c = search (fielding, rules)
 
-pub shape_of-plans : goal.shape_of-plans
-shape_of-plans c = search (fielding, rules)
-
 pub returns : goal.returns
 returns c = search (fielding, rules)

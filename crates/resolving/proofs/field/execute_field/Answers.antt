@@ -1,5 +1,4 @@
 -- It is not defined, too far down, or a value behind its key. Assumes nothing.
-use native.Mathlib.Omega.{arith}
 use Rattle.resolving.proofs.FieldSteps.{field_completable, field_resolvable, field_undefined, field_full, field_typename, field_defined}
 use borrow.Author.Rules.{rules}
 use Rattle.resolving.proofs.field.execute_field.Goals as goal
@@ -20,9 +19,6 @@ execute_typename-requires c = record { completable = field_completable c.require
 
 pub returns-then-own-eq-TYPENAME : goal.returns-then-own-eq-TYPENAME
 returns-then-own-eq-TYPENAME c = field_typename c.requires.field_row.1 c.if-path-ge-MOST_SEGMENTS.false c.field_selection-field.ensures c.selection_place-place.ensures c.name_segment-last.ensures c.put_key.ensures c.moved-open.ensures c.if-own-eq-TYPENAME.true c.execute_typename.ensures
-
-pub overflow_cast-own : goal.overflow_cast-own
-overflow_cast-own c = omega arith
 
 pub answer_field-answer-requires : goal.answer_field-answer-requires
 answer_field-answer-requires c = record { coercible = (c.requires.answerable.coercible, field_resolvable c.requires.answerable _ c.requires.field_row.0 c.field_selection-field.ensures c.field_at-def.ensures); count_bound = c.requires.count_bound.1 }
