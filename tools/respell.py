@@ -46,14 +46,17 @@ def uncommented(t):
 def declared():
     camel, kebab, plain, where = set(), set(), set(), collections.defaultdict(set)
     for p in files(".antt"):
+        if os.path.basename(p) in ("Answers.antt", "Invariants.antt") and not p.endswith("proofs/Answers.antt"):
+            continue
         walked = "/+" in p
+        by_hand = p.endswith("/Proof.antt")
         for line in uncommented(open(p, encoding="utf-8").read()).splitlines():
             m = DECL.match(line)
             if not m:
                 continue
-            if len(m[1]) > 4:
-                continue
             ws = m[3].split()
+            if len(m[1]) > 4 and (by_hand or len(ws) != 1):
+                continue
             if not ws or any(w in HEAD for w in ws) or "λ" in line[: m.end(3)]:
                 continue
             if not m[2] and len(ws) > 1:
@@ -65,7 +68,7 @@ def declared():
                 if re.match(r"[a-z][A-Za-z0-9]*[A-Z]", w):
                     camel.add(w)
                 elif "-" in w and re.match(r"[a-z]", w):
-                    if not walked and not MADE.search(w):
+                    if not walked and not (by_hand and MADE.search(w)):
                         kebab.add(w)
                 elif re.match(r"[a-z]", w):
                     plain.add(w)
@@ -88,9 +91,22 @@ def table():
         if together[new[w]] > 1 and w not in FIXED:
             new[w] += "_lem"
     new.update(VARIABLES)
-    for w in bound():
+    for w in aliases() + bound():
         new.setdefault(w, w.replace("-", "_"))
     return {a: b for a, b in new.items() if a != b}, camel, kebab, plain, where
+
+
+def aliases():
+    """what a use line of ours calls a name, as the_type as kind-type; and rulesets"""
+    out = set()
+    for p in files(".antt"):
+        if p.endswith("/Proof.antt"):
+            continue
+        t = uncommented(open(p, encoding="utf-8").read())
+        for m in re.finditer(r"^use [^\n]*", t, re.M):
+            out |= set(re.findall(r" as ([a-z][\w']*(?:-[\w']+)+)(?=[,}])", m[0]))
+        out |= set(re.findall(r"^(?:pub )?ruleset ([a-z][\w']*(?:-[\w']+)+)", t, re.M))
+    return sorted(out)
 
 
 def bound():

@@ -16,10 +16,10 @@ digit zero l = refl
 digit (suc zero) l = refl
 digit (suc (suc n)) l = absurd (omega arith)
 
-either-one : (n : ℕ) → n < 2 → bit_or 1 n ≡ 1
-either-one zero l = refl
-either-one (suc zero) l = refl
-either-one (suc (suc n)) l = absurd (omega arith)
+either_one : (n : ℕ) → n < 2 → bit_or 1 n ≡ 1
+either_one zero l = refl
+either_one (suc zero) l = refl
+either_one (suc (suc n)) l = absurd (omega arith)
 
 doubled : (n : ℕ) → eqb (n * 2 + 0) 0 ≡ eqb n 0
 doubled zero = refl
@@ -34,7 +34,7 @@ bit_read (suc row) bits =
 bit_set : (other row bits : ℕ) → is_marked other (bit_or bits (1 * 2 ^ row)) ≡ (eqb other row || is_marked other bits)
 unfolding is_marked
 bit_set zero zero bits =
-    rw (or_mod bits 1 1, or_comm (bits % 2) 1) (eq-eqb (bit_or 1 (bits % 2)) 1 (either-one (bits % 2) (omega arith)))
+    rw (or_mod bits 1 1, or_comm (bits % 2) 1) (eq-eqb (bit_or 1 (bits % 2)) 1 (either_one (bits % 2) (omega arith)))
 bit_set zero (suc row) bits =
     rw (or_mod bits (1 * 2 ^ suc row) 1, shifted_even 1 row, or_zero_r, eqb-zero-suc)
 bit_set (suc other) zero bits =

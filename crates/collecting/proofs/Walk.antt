@@ -145,18 +145,18 @@ module _ (types members sets selections fragments nodes variables : List ℕ) (r
         }
 
     module _ {row : ℕ} (h : found ≡ Row row) {seen : Bool} (m : seen ≡ is_marked row g.visited) where
-      pub spread-again : seen ≡ true → CollectsSpread types members sets selections fragments nodes variables room object name list g (On g) list
+      pub spread_again : seen ≡ true → CollectsSpread types members sets selections fragments nodes variables room object name list g (On g) list
       unfolding spread when
-      spread-again t =
+      spread_again t =
           stays selections fragments (spread_done types members sets selections fragments nodes variables room object name) (λ c. c)
           (λ c s. (rw (s.marked name row (found_some (fragment_named fragments name) e h), ← m, t), s))
 
       module _ (n : seen ≡ false) (bits : ℕ) (marks : (other : ℕ) → is_marked other bits ≡ (eqb other row || is_marked other g.visited))
           {fragment : Fragment} (read : fragment ≡ fragment_at fragments row)
           {applies : Bool} (does : applies ≡ does_fragment_type_apply types members object fragment.condition) where
-        pub spread-other : not applies ≡ true → CollectsSpread types members sets selections fragments nodes variables room object name list g (On (record { visited = bits; count = g.count })) list
+        pub spread_other : not applies ≡ true → CollectsSpread types members sets selections fragments nodes variables room object name list g (On (record { visited = bits; count = g.count })) list
         unfolding when
-        spread-other a =
+        spread_other a =
             let f = found_some (fragment_named fragments name) e h in
             stays selections fragments (spread_done types members sets selections fragments nodes variables room object name) (visit name)
             (λ c s. (
@@ -164,11 +164,11 @@ module _ (types members sets selections fragments nodes variables : List ℕ) (r
               shows_visited selections fragments s name row bits f marks,
             ))
 
-        pub spread-opened : {r : Collecting} {list' : List ℕ} → not applies ≡ false
+        pub spread_opened : {r : Collecting} {list' : List ℕ} → not applies ≡ false
             → CollectsSet types members sets selections fragments nodes variables room object fragment.set list (record { visited = bits; count = g.count }) r list'
             → CollectsSpread types members sets selections fragments nodes variables room object name list g r list'
         unfolding when
-        spread-opened a q =
+        spread_opened a q =
             let f = found_some (fragment_named fragments name) e h in
             like selections fragments (spread_done types members sets selections fragments nodes variables room object name) (visit name) (set_done types members sets selections fragments nodes variables room object fragment.set)
             (λ c s. (
@@ -203,30 +203,30 @@ module _ (types members sets selections fragments nodes variables : List ℕ) (r
         (λ c s. (rw (is_dropped types members sets selections fragments nodes variables room object row e d, t), s))
 
     module _ (n : drops ≡ false) where
-      pub selection-field : {f : FieldSelection} {r : Collecting} {list' : List ℕ} → s.what ≡ Field f → row < most_selections
+      pub selection_field : {f : FieldSelection} {r : Collecting} {list' : List ℕ} → s.what ≡ Field f → row < most_selections
           → CollectsField row list g r list' → CollectsSelection types members sets selections fragments nodes variables room object row list g r list'
       unfolding collect_selected
-      selection-field {f = f'} w l q =
+      selection_field {f = f'} w l q =
           let h : (selection_at selections row).what ≡ Field f' = rw (← e) w in
           let t : f' ≡ field_selection selections row = field_is selections row f' h in
           like selections fragments (selection_done types members sets selections fragments nodes variables room object row) (λ c. c) (collect_field (field_selection selections row).key row)
           (λ c s. (kept types members sets selections fragments nodes variables room object row e d n w c ∙ rw t, s)) (q selections fragments (record { there = l; is = h ∙ rw t }))
 
-      pub selection-spread : {name : ℕ} {r : Collecting} {list' : List ℕ} → s.what ≡ Spread name
+      pub selection_spread : {name : ℕ} {r : Collecting} {list' : List ℕ} → s.what ≡ Spread name
           → CollectsSpread types members sets selections fragments nodes variables room object name list g r list' → CollectsSelection types members sets selections fragments nodes variables room object row list g r list'
       unfolding collect_selected
-      selection-spread {name = name'} w q =
+      selection_spread {name = name'} w q =
           like selections fragments (selection_done types members sets selections fragments nodes variables room object row) (λ c. c) (spread_done types members sets selections fragments nodes variables room object name') (λ c s. (kept types members sets selections fragments nodes variables room object row e d n w c, s)) q
 
-      pub selection-inline : {type : Optional} {inner : ℕ} {r : Collecting} {list' : List ℕ} → s.what ≡ Inline type inner
+      pub selection_inline : {type : Optional} {inner : ℕ} {r : Collecting} {list' : List ℕ} → s.what ≡ Inline type inner
           → CollectsInline types members sets selections fragments nodes variables room object type inner list g r list' → CollectsSelection types members sets selections fragments nodes variables room object row list g r list'
       unfolding collect_selected
-      selection-inline {type = type'} {inner = inner'} w q =
+      selection_inline {type = type'} {inner = inner'} w q =
           like selections fragments (selection_done types members sets selections fragments nodes variables room object row) (λ c. c) (inline_done types members sets selections fragments nodes variables room object type' inner') (λ c s. (kept types members sets selections fragments nodes variables room object row e d n w c, s)) q
 
-      pub selection-unknown : s.what ≡ Unknown → CollectsSelection types members sets selections fragments nodes variables room object row list g (On g) list
+      pub selection_unknown : s.what ≡ Unknown → CollectsSelection types members sets selections fragments nodes variables room object row list g (On g) list
       unfolding collect_selected
-      selection-unknown w = stays selections fragments (selection_done types members sets selections fragments nodes variables room object row) (λ c. c) (λ c s. (kept types members sets selections fragments nodes variables room object row e d n w c, s))
+      selection_unknown w = stays selections fragments (selection_done types members sets selections fragments nodes variables room object row) (λ c. c) (λ c s. (kept types members sets selections fragments nodes variables room object row e d n w c, s))
 
 -- ---- The loop over the selections. Before a selection: what is left of them, after what was collected so far
 
@@ -300,4 +300,4 @@ module _ (types members sets selections fragments nodes variables : List ℕ) (r
       }
 
 pub ruleset walking =
-    (collect_on, bit_there, set_full, set_within, set_opened, spread_undefined, spread-again, spread-other, spread-opened, selection_dropped, selection-field, selection-spread, selection-inline, inline_other, inline_opened, selection-unknown, going_begin, going_again, going_stopped, going_ended)
+    (collect_on, bit_there, set_full, set_within, set_opened, spread_undefined, spread_again, spread_other, spread_opened, selection_dropped, selection_field, selection_spread, selection_inline, inline_other, inline_opened, selection_unknown, going_begin, going_again, going_stopped, going_ended)

@@ -28,7 +28,7 @@ use Rattle.graphql.specs.Complete.{Leaf, field_error, takes, scalar_leaf, enum_l
 use Rattle.values.specs.Plain.{said}
 use Rattle.values.specs.declared.sort.Sort.{Sort}
 use Rattle.values.specs.declared.sort.Sort.TheVariants as sorts
-use Rattle.values.specs.contracts.sort.Sort.{the_type as the-sort}
+use Rattle.values.specs.contracts.sort.Sort.{the_type as the_sort}
 use Rattle.completing.specs.Judged.{Lent, Shown, judged, is, fitting, int_taken, id_taken, JudgesScalar, JudgesAt, JudgesLeaf, NamesType}
 use Rattle.completing.specs.declared.result_coercion.Verdict.{Verdict}
 use Rattle.completing.specs.declared.result_coercion.Verdict.TheVariants.{Fits, Error}
@@ -154,7 +154,7 @@ module _ (pool names refs types members : List ℕ) {ty : ℕ} {sort : Sort} {st
       go Q l z g p true = refl
       go Q l z g p false = rw z
 
-  module _ (o : Among others (tag_of the-sort sort)) {t : Typed} (named : NamesType refs types ty t) where
+  module _ (o : Among others (tag_of the_sort sort)) {t : Typed} (named : NamesType refs types ty t) where
     pub leaf_untyped : {e : FieldError} → t ≡ typing.Error e → JudgesLeaf pool names refs types members ty sort string (Error e)
     unfolding complete_leaf_value when
     leaf_untyped h = record {

@@ -102,9 +102,9 @@ module _ (other : ℕ → ℕ → Bool) where
 
     -- the next row
     module _ (s : ℕ) (a : AfterLast (other count) (get_or since count 0) count s) where
-      next-other : (first : ℕ) → first ≤ count → (leb (get_or since count 0) first && is_other other first (count - first)) ≡ leb s first
+      next_other : (first : ℕ) → first ≤ count → (leb (get_or since count 0) first && is_other other first (count - first)) ≡ leb s first
       unfolding is_other
-      next-other first l = go (dec_le s first) (dec_le (get_or since count 0) first)
+      next_other first l = go (dec_le s first) (dec_le (get_or since count 0) first)
         where
           to : first + (count - first) ≡ count
           to = omega arith
@@ -123,25 +123,25 @@ module _ (other : ℕ → ℕ → Bool) where
               (rw (to, at) (sym (a.last (omega arith)))) refl))
           go (no m) (no w) = rw (lt-leb (get_or since count 0) first (omega arith), lt-leb s first (omega (arith, a.low)))
 
-      next-told : (first : ℕ) → first ≤ count + 1 → differ other first (count + 1 - first) ≡ leb s first
-      next-told first l = go (dec_le first count)
+      next_told : (first : ℕ) → first ≤ count + 1 → differ other first (count + 1 - first) ≡ leb s first
+      next_told first l = go (dec_le first count)
         where
           go : Dec (first ≤ count) → differ other first (count + 1 - first) ≡ leb s first
           go (yes m) =
               let e : count + 1 - first ≡ count - first + 1 = omega arith in
-              rw (e, differ_more first (count - first), h.told count first (omega arith) m) (next-other first m)
+              rw (e, differ_more first (count - first), h.told count first (omega arith) m) (next_other first m)
           go (no m) =
               let e : count + 1 - first ≡ 0 = omega arith in
               rw (e, differ_none first) (sym (le-leb s first (omega (arith, a.high))))
 
-      pub since-one : count + 1 < length since → Since other (count + 1) (set since (count + 1) s)
-      since-one k = record { told = λ end first m n. go end first m n (eqb end (count + 1)) refl }
+      pub since_one : count + 1 < length since → Since other (count + 1) (set since (count + 1) s)
+      since_one k = record { told = λ end first m n. go end first m n (eqb end (count + 1)) refl }
         where
           go : (end first : ℕ) → end ≤ count + 1 → first ≤ end → (b : Bool) → eqb end (count + 1) ≡ b
               → differ other first (end - first) ≡ leb (get_or (set since (count + 1) s) end 0) first
           go end first m n true t =
               let e : end ≡ count + 1 = eqb-true end (count + 1) t in
-              rw (e, get_or-set_same since (count + 1) s 0 k) (next-told first (omega arith))
+              rw (e, get_or-set_same since (count + 1) s 0 k) (next_told first (omega arith))
           go end first m n false t =
               let x : end ≡ count + 1 → ⊥ = eqb-false end (count + 1) t in
               rw (get_or-set_other since (count + 1) end s 0 x) (h.told end first (omega arith) n)

@@ -6,7 +6,7 @@ use native.Mathlib.Omega.{arith}
 use lib.ListN.{length, get_or, set, length-set, replicate, length-replicate, get_or-replicate}
 use Rattle.distinct.specs.Differ.{AfterLast, Cursor}
 use Rattle.distinct.specs.Texts.{other_text, text_hash, text_chain, Hashed, Kept}
-use Rattle.distinct.proofs.Differ.{since_none, since-one}
+use Rattle.distinct.proofs.Differ.{since_none, since_one}
 use Rattle.distinct.proofs.Chains.{lasts_none, lasts_one, lasts_found, links_none, links_one, cursor_start}
 use Rattle.distinct.proofs.HashLaws.{chain_other, hashed_none, hashed_one}
 
@@ -47,7 +47,7 @@ module _ (pool t : List ℕ) (width column : ℕ) where
       linked = links_one (text_chain pool t width column) row (get_or heads (hash % 2048) 0) next k.linked
           (lasts_found (text_chain pool t width column) 2048 row (hash % 2048) heads k.headed chained (omega arith)) l;
       hashed = kept_hashed l;
-      told = since-one (other_text pool t width column) row since k.told s a (omega (arith, k.since_sized));
+      told = since_one (other_text pool t width column) row since k.told s a (omega (arith, k.since_sized));
       hashes_sized = simp length-set k.hashes_sized;
       since_sized = simp length-set k.since_sized;
     }

@@ -64,19 +64,19 @@ module _ (selections : List ℕ) where
 
     module _ (set : ℕ) (e : owned_set selections row ≡ Row set) where
       -- one that owns a set without a mark
-      pub selection-past : 4096 ≤ set → Marked (free_of_selections selections (row + 1)) marks
-      selection-past h =
+      pub selection_past : 4096 ≤ set → Marked (free_of_selections selections (row + 1)) marks
+      selection_past h =
           marked_same (free_of_selections selections row) (free_of_selections selections (row + 1)) marks m
           (λ n l. free_more row n (Row set) e ∙ (rw (ne_eqb n set (λ f. omega arith)) (and-true (free_of_selections selections row n))))
 
       -- and one whose set has a mark
-      pub selection-marked : set < 4096 → Marked (free_of_selections selections (row + 1)) (ListN.set marks set 1)
-      selection-marked h =
+      pub selection_marked : set < 4096 → Marked (free_of_selections selections (row + 1)) (ListN.set marks set 1)
+      selection_marked h =
           marked_one (free_of_selections selections row) (free_of_selections selections (row + 1)) marks set m h (λ n. free_more row n (Row set) e)
 
-      pub selection-told : set < 4096 → eqb (get_or marks set 0) 0 ≡ selection_owns_alone selections row
+      pub selection_told : set < 4096 → eqb (get_or marks set 0) 0 ≡ selection_owns_alone selections row
       unfolding free_of_selections
-      selection-told h = m.marked set h ∙ (rw e)
+      selection_told h = m.marked set h ∙ (rw e)
 
   module _ (fragments : List ℕ) where
     -- before the first fragment, those that no selection owns are free
@@ -97,23 +97,23 @@ module _ (selections : List ℕ) where
         (not (eqb n (cell fragments fragment_width row 2)))))
 
     module _ (row : ℕ) (marks : List ℕ) (m : Marked (free_of_fragments selections fragments row) marks) where
-      pub fragment-past : 4096 ≤ (fragment_at fragments row).set → Marked (free_of_fragments selections fragments (row + 1)) marks
-      fragment-past h =
+      pub fragment_past : 4096 ≤ (fragment_at fragments row).set → Marked (free_of_fragments selections fragments (row + 1)) marks
+      fragment_past h =
           marked_same (free_of_fragments selections fragments row) (free_of_fragments selections fragments (row + 1)) marks m
           (λ n l. free_fragment row n
           ∙ (rw (ne_eqb n (fragment_at fragments row).set (λ f. omega arith)) (and-true (free_of_fragments selections fragments row n))))
 
-      pub fragment-marked : (fragment_at fragments row).set < 4096
+      pub fragment_marked : (fragment_at fragments row).set < 4096
           → Marked (free_of_fragments selections fragments (row + 1)) (ListN.set marks (fragment_at fragments row).set 1)
-      fragment-marked h =
+      fragment_marked h =
           marked_one (free_of_fragments selections fragments row) (free_of_fragments selections fragments (row + 1)) marks
           (fragment_at fragments row).set m h
           (free_fragment row)
 
-      pub fragment-told : (fragment_at fragments row).set < 4096
+      pub fragment_told : (fragment_at fragments row).set < 4096
           → eqb (get_or marks (fragment_at fragments row).set 0) 0 ≡ fragment_owns_alone selections fragments row
       unfolding free_of_fragments free_of_selections fragment_at is_new
-      fragment-told h =
+      fragment_told h =
           m.marked (fragment_at fragments row).set h
           ∙ (rw (all_same (λ j. not (eqb (cell fragments fragment_width (0 + row) 2) (cell fragments fragment_width (0 + j) 2)))
           (λ j. not (eqb (cell fragments fragment_width row 2) (cell fragments fragment_width j 2))) row (λ j k. rw (zero-add row, zero-add j))))

@@ -108,20 +108,20 @@ module _ (pool names refs types fields nodes literals variables : List ℕ) wher
       module _ {text text1 text2 : List ℕ} {next value i : ℕ} {r : Put} (g : GoingItems rows.first rows.count text₀ at text next i)
           (l : i < rows.count) (w : Writes text text1 next value (44 ∷ [])) (q : Echoes (room - 1) (item
           (rows.first + i)) text1 value r text2) where
-        item-shown : Shows containers (item_out (rows.first + i)) (room - 1) (item (rows.first + i)) text next r text2
+        item_shown : Shows containers (item_out (rows.first + i)) (room - 1) (item (rows.first + i)) text next r text2
         unfolding item_out
-        item-shown = behind w q
+        item_shown = behind w q
 
-        pub items-again : {end : ℕ} → r ≡ At end → GoingItems rows.first rows.count text₀ at text2 end (i + 1)
-        items-again e = going_again containers item_out (room - 1) item rows.first rows.count text₀ at g l item-shown e
+        pub items_again : {end : ℕ} → r ≡ At end → GoingItems rows.first rows.count text₀ at text2 end (i + 1)
+        items_again e = going_again containers item_out (room - 1) item rows.first rows.count text₀ at g l item_shown e
 
-        pub items-stopped : (room ≡ 0 → ⊥) → r ≡ TooFar
+        pub items_stopped : (room ≡ 0 → ⊥) → r ≡ TooFar
             → Echoes room (of_items pool names refs types fields nodes literals variables room inner (rows_in rows)) text₀ at TooFar text2
         unfolding rows_in containers print
-        items-stopped z e =
+        items_stopped z e =
             container_stopped containers item_out room item rows.first rows.count text₀ at z 91 93 (λ js. array (items js))
             (λ js n. rw (items_deep js)) (λ js n. rw (items_text (rows_from rows.first rows.count) js n)) _ (items_opened
-            (rows_in rows) z) g l item-shown e
+            (rows_in rows) z) g l item_shown e
 
       pub items_ended : {text text2 : List ℕ} {next i end : ℕ} → GoingItems rows.first rows.count text₀ at text next i → (room ≡ 0 → ⊥)
           → rows.count ≤ i → Closes 91 93 text at next text2 end
@@ -214,24 +214,24 @@ module _ (pool names refs types fields nodes literals variables : List ℕ) wher
       module _ {text text2 : List ℕ} {next i : ℕ} {r : Put} (g : GoingFields declared.first declared.count text₀ at text next i)
           (l : i < declared.count)
           (q : Shows field_size (field_out pool names fields (declared.first + i)) (room - 1) (part (declared.first + i)) text next r text2) where
-        pub fields-again : {end : ℕ} → r ≡ At end → GoingFields declared.first declared.count text₀ at text2 end (i + 1)
-        fields-again e = going_again field_size (field_out pool names fields) (room - 1) part declared.first declared.count text₀ at g l q e
+        pub fields_again : {end : ℕ} → r ≡ At end → GoingFields declared.first declared.count text₀ at text2 end (i + 1)
+        fields_again e = going_again field_size (field_out pool names fields) (room - 1) part declared.first declared.count text₀ at g l q e
 
-        pub fields-stopped : (room ≡ 0 → ⊥) → r ≡ TooFar
+        pub fields_stopped : (room ≡ 0 → ⊥) → r ≡ TooFar
             → EchoesFields pool names refs types fields nodes literals variables room given (rows_in declared) text₀ at TooFar text2
         unfolding rows_in containers print
-        fields-stopped z e =
+        fields_stopped z e =
             container_stopped field_size (field_out pool names fields) room part declared.first declared.count text₀ at z 123 125
             (λ js. object (members (map (key pool names fields) (rows_from declared.first declared.count)) js))
             (λ js n. rw (members_deep pool names fields (rows_from declared.first declared.count) js n))
             (λ js n. rw (members_text pool names fields (rows_from declared.first declared.count) js)) _ (fields_opened
             (rows_in declared) z) g l q e
 
-      pub fields-ended : {text text2 : List ℕ} {next i end : ℕ} → GoingFields declared.first declared.count text₀ at text next i
+      pub fields_ended : {text text2 : List ℕ} {next i end : ℕ} → GoingFields declared.first declared.count text₀ at text next i
           → (room ≡ 0 → ⊥) → declared.count ≤ i → Closes 123 125 text at next text2 end
           → EchoesFields pool names refs types fields nodes literals variables room given (rows_in declared) text₀ at (At end) text2
       unfolding rows_in containers print
-      fields-ended g z l c =
+      fields_ended g z l c =
           container_ended field_size (field_out pool names fields) room part declared.first declared.count text₀ at z 123 125
           (λ js. object (members (map (key pool names fields) (rows_from declared.first declared.count)) js))
           (λ js n. rw (members_deep pool names fields (rows_from declared.first declared.count) js n))

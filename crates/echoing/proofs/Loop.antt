@@ -130,13 +130,13 @@ module _ {K A : Type 0} (size : A → ℕ) (out : ℕ → A → List ℕ) (room 
             }
         go k vs o m s (no p) = let e = s.full (omega arith) in absurd (let z : ◌≡◌ {A = ℕ} 0 1 = cc in omega arith)
 
-    pub part-long : length text2 ≡ length text₀
-    part-long = w.long ∙ g.long
+    pub part_long : length text2 ≡ length text₀
+    part_long = w.long ∙ g.long
 
     -- a part that was too far opens more containers than there is room for
-    pub part-stops : r ≡ TooFar → (k : K) (vs : List A) → Parts k rows vs → room < largest size vs
+    pub part_stops : r ≡ TooFar → (k : K) (vs : List A) → Parts k rows vs → room < largest size vs
     unfolding largest
-    part-stops h k vs q =
+    part_stops h k vs q =
         let o = g.gone k vs q in
         let m = part k vs q o in
         go o m (w.shown k m.head m.here) (dec_le (size m.head) room)
@@ -186,10 +186,10 @@ module _ {K A : Type 0} (size : A → ℕ) (out : ℕ → A → List ℕ) (room 
     pub container_stopped : {text2 : List ℕ} {r : Put} → i < count → Shows size (out (first + i)) (room - 1) (run (first + i)) text next r text2
         → r ≡ TooFar → Shows containers print room m text₀ at TooFar text2
     container_stopped l w h = record {
-      long = part-long size out (room - 1) run first count text₀ at g l w;
+      long = part_long size out (room - 1) run first count text₀ at g l w;
       shown = λ k j q.
           let b = of_parts k j q in
-          let n = part-stops size out (room - 1) run first count text₀ at g l w h k b.value b.first in
+          let n = part_stops size out (room - 1) run first count text₀ at g l w h k b.value b.first in
           let d = deep b.value (comes_long (λ row. run row k) (rows_from first count) b.first) in
           rw (← b.is) (record { fits = λ f. absurd (omega arith); full = λ f. refl });
     }

@@ -31,7 +31,7 @@ use Rattle.lookup.specs.Found.{row_of}
 use Rattle.input_coercion.specs.Coerced.{form_meant, FormAt, given_named}
 use Rattle.input_coercion.specs.declared.check.Form.{Form}
 use Rattle.input_coercion.specs.declared.check.Form.TheVariants as form
-use Rattle.input_coercion.specs.contracts.check.Form.{the_type as form_type_lem}
+use Rattle.input_coercion.specs.contracts.check.Form.{the_type as form_type}
 use Rattle.input_coercion.proofs.Leaves.{not_found, is_found_lem}
 use Rattle.echoing.specs.Echo.{Comes}
 use Rattle.echoing.specs.Source.{ArgumentsDiffer, definition_named, default_source, variable_source, Found, Stands, SourceOf}
@@ -215,27 +215,27 @@ module _ (pool names refs types fields nodes literals variables arguments given 
 
     -- the argument of the name
     module _ (n : ℕ) (h : label ≡ n) where
-      found-valued : (m : M Json) → Comes (valued pool names refs types fields nodes literals variables arguments given row m) a
+      found_valued : (m : M Json) → Comes (valued pool names refs types fields nodes literals variables arguments given row m) a
           → Found m (argument_named n a)
-      found-valued m q =
+      found_valued m q =
           let v = is_valued m a q in
           record { value = v.value; is = named_one label n h v.value v.is; comes = v.first }
 
-      default-stands : (o : Optional) → Comes (default_argument pool names refs types fields nodes literals variables arguments given p row o) a
+      default_stands : (o : Optional) → Comes (default_argument pool names refs types fields nodes literals variables arguments given p row o) a
           → Stands pool names refs types fields nodes literals variables p (default_source o) (argument_named n a)
       unfolding default_argument default_source argument_named
-      default-stands Absent q = let e : ◌≡◌ {A = Arguments} [] a = comes_pure (no_error _ error.MissingArgument (pure []) q) in rw (← e)
-      default-stands (Row d) q = found-valued (part_by_part pool names literals most_open d) q
+      default_stands Absent q = let e : ◌≡◌ {A = Arguments} [] a = comes_pure (no_error _ error.MissingArgument (pure []) q) in rw (← e)
+      default_stands (Row d) q = found_valued (part_by_part pool names literals most_open d) q
 
-      variable-stands : (o : Option ℕ) → Comes (variable_argument pool names refs types fields nodes literals variables arguments given p row o) a
+      variable_stands : (o : Option ℕ) → Comes (variable_argument pool names refs types fields nodes literals variables arguments given p row o) a
           → Stands pool names refs types fields nodes literals variables p (variable_source variables (argument_at arguments row).default o)
           (argument_named n a)
       unfolding variable_argument variable_source variable_value
-      variable-stands none q = default-stands (argument_at arguments row).default q
-      variable-stands (some v) q = found-valued (variable_value pool nodes variables v) (no_error _ error.NullArgument _ q)
+      variable_stands none q = default_stands (argument_at arguments row).default q
+      variable_stands (some v) q = found_valued (variable_value pool nodes variables v) (no_error _ error.NullArgument _ q)
 
 -- a form that is none of a variable
-no_variable : (f : Form) → Among (0 ∷ 2 ∷ []) (tag_of form_type_lem f) → (x : ℕ) → form_meant f ≡ variable x → ⊥
+no_variable : (f : Form) → Among (0 ∷ 2 ∷ []) (tag_of form_type f) → (x : ℕ) → form_meant f ≡ variable x → ⊥
 no_variable form.Null o x e = let z : ◌≡◌ {A = ℕ} 0 1 = cc in omega arith
 no_variable (form.Variable y) o x e = miss (0 ∷ 2 ∷ []) 1 tt (opened o)
 no_variable (form.Shaped s) o x e = let z : ◌≡◌ {A = ℕ} 0 1 = cc in omega arith
@@ -281,41 +281,41 @@ module _ (arguments given literals variables : List ℕ) (definitions written : 
 
     module _ (d : ArgumentsDiffer arguments definitions) {row : ℕ} {argument : Argument} {there : Optional} (h : found ≡ Row row)
         (a : argument ≡ argument_at arguments row) (g : there ≡ row_of (given_named given name (rows_in written))) where
-      pub source-default : {r : Source} → there ≡ Absent → r ≡ default_source argument.default
+      pub source_default : {r : Source} → there ≡ Absent → r ≡ default_source argument.default
           → SourceOf arguments given literals variables definitions written name r
       unfolding coerce_argument
-      source-default n k = record {
+      source_default n k = record {
         stands = λ pool names refs types fields nodes p args q.
             let c = own_of d h pool names refs types fields nodes p args q in
             rw (c.is, k, a)
-            (default-stands pool names refs types fields nodes literals variables arguments given p row c.own name c.labelled
+            (default_stands pool names refs types fields nodes literals variables arguments given p row c.own name c.labelled
             (argument_at arguments row).default
             (rw (c.labelled, not_found (given_named given name (rows_in written)) g n) at c.here));
       }
 
       module _ {at : ℕ} {value : Given} {f : Form} (n : there ≡ Row at) (v : value ≡ given_at given at) (l : FormAt literals value.literal f) where
-        pub source-variable : {r : Source} {x : ℕ} → f ≡ form.Variable x
+        pub source_variable : {r : Source} {x : ℕ} → f ≡ form.Variable x
             → r ≡ variable_source variables argument.default (variable_named variables x)
             → SourceOf arguments given literals variables definitions written name r
         unfolding coerce_argument given_argument
-        source-variable {x = x} i k = record {
+        source_variable {x = x} i k = record {
           stands = λ pool names refs types fields nodes p args q.
               let c = own_of d h pool names refs types fields nodes p args q in
               rw (c.is, k, a)
-              (variable-stands pool names refs types fields nodes literals variables arguments given p row c.own name c.labelled
+              (variable_stands pool names refs types fields nodes literals variables arguments given p row c.own name c.labelled
               (variable_named variables x)
               (rw (c.labelled, is_found_lem (given_named given name (rows_in written)) g n, ← v, l.is, i) at c.here));
         }
 
-        pub source-literal : Among (0 ∷ 2 ∷ []) (tag_of form_type_lem f)
+        pub source_literal : Among (0 ∷ 2 ∷ []) (tag_of form_type f)
             → SourceOf arguments given literals variables definitions written name (source.Literal argument.ty value.literal)
         unfolding coerce_argument given_argument literal_argument
-        source-literal o = record {
+        source_literal o = record {
           stands = λ pool names refs types fields nodes p args q.
               let c = own_of d h pool names refs types fields nodes p args q in
               rw (c.is, a)
               (record {
-                found = found-valued pool names refs types fields nodes literals variables arguments given p row c.own name c.labelled
+                found = found_valued pool names refs types fields nodes literals variables arguments given p row c.own name c.labelled
                     (coerce_argument_value pool names refs types fields nodes literals variables most_open p (argument_at arguments row).ty
                     value.literal)
                     (go pool names refs types fields nodes p c.own f o
@@ -324,7 +324,7 @@ module _ (arguments given literals variables : List ℕ) (definitions written : 
               });
         }
           where
-            go : (pool names refs types fields nodes : List ℕ) (p : Path) (own : Arguments) (f : Form) → Among (0 ∷ 2 ∷ []) (tag_of form_type_lem f)
+            go : (pool names refs types fields nodes : List ℕ) (p : Path) (own : Arguments) (f : Form) → Among (0 ∷ 2 ∷ []) (tag_of form_type f)
                 → Comes (given_argument pool names refs types fields nodes literals variables arguments given p row value.literal (form_meant f)) own
                 → Comes (literal_argument pool names refs types fields nodes literals variables arguments given p row value.literal) own
             go pool names refs types fields nodes p own form.Null o q =
@@ -332,7 +332,7 @@ module _ (arguments given literals variables : List ℕ) (definitions written : 
             go pool names refs types fields nodes p own (form.Variable x) o q = absurd (miss (0 ∷ 2 ∷ []) 1 tt (opened o))
             go pool names refs types fields nodes p own (form.Shaped s) o q = q
 
-pub ruleset sourcing = (source_unknown, source-default, source-variable, source-literal, shut)
+pub ruleset sourcing = (source_unknown, source_default, source_variable, source_literal, shut)
 
 -- ---- the small ones
 

@@ -16,7 +16,7 @@ use Rattle.rows.specs.declared.schema.TypeRef.{TypeRef}
 use Rattle.rows.specs.declared.schema.TypeRef.TheVariants as ref
 use Rattle.rows.specs.declared.schema.TypeKind.TheVariants as kind
 use Rattle.rows.specs.declared.schema.TypeDef.{TypeDef}
-use Rattle.rows.specs.contracts.schema.TypeKind.{the_type as kind-type}
+use Rattle.rows.specs.contracts.schema.TypeKind.{the_type as kind_type}
 use Rattle.codes.specs.declared.errors.FieldError.TheVariants as error
 use Rattle.tokens.specs.Literal.{null_name}
 use Rattle.writing.specs.Wrote.{Writes}
@@ -31,7 +31,7 @@ use Rattle.input_coercion.specs.declared.check.Shape.{Shape}
 use Rattle.input_coercion.specs.declared.check.Shape.TheVariants as shape
 use Rattle.input_coercion.specs.declared.check.Form.{Form}
 use Rattle.input_coercion.specs.declared.check.Form.TheVariants as form
-use Rattle.input_coercion.specs.contracts.check.Shape.{the_type as shape-type}
+use Rattle.input_coercion.specs.contracts.check.Shape.{the_type as shape_type}
 use Rattle.input_coercion.proofs.Leaves.{not_found, is_found_lem}
 use Rattle.input_coercion.proofs.Walk.{form_shaped, listable, keyed_within, few_declared, other_kinds, other_kind}
 use Rattle.values.specs.Literals.{LiteralsParted}
@@ -40,7 +40,7 @@ use Rattle.values.specs.declared.node.Put.TheVariants.{At, TooFar}
 use Rattle.echoing.specs.Echo.{Comes, Echoes, EchoesVariable, EchoesFields, of_part, of_value, of_variable, of_items, of_named, of_shape, of_fields}
 use Rattle.echoing.proofs.Comes.{comes_pure, comes_failed, not_failed}
 use Rattle.echoing.proofs.Leaves.{never, null_shown}
-use Rattle.echoing.proofs.Fields.{items_full, items_begin, items-again, items-stopped, items_ended, field_given, field_default_lem, field_absent, fields_full, fields_begin, fields-again, fields-stopped, fields-ended}
+use Rattle.echoing.proofs.Fields.{items_full, items_begin, items_again, items_stopped, items_ended, field_given, field_default_lem, field_absent, fields_full, fields_begin, fields_again, fields_stopped, fields_ended}
 
 -- the parts of a literal are few by either name
 pub literals_parted_lem : {types nodes literals variables : List ℕ} → Coercible types nodes literals variables → LiteralsParted literals
@@ -77,7 +77,7 @@ module _ (pool names refs types fields nodes literals variables : List ℕ) (roo
         (λ p j q. comes_failed literals error.UndefinedInputType row p (rw (not_found (type_named types name) e h) at q))
 
     module _ {type : ℕ} {def : TypeDef} (h : found ≡ Row type) (d : def ≡ type_at types type) where
-      pub named_other : {r : Put} {text' : List ℕ} → Among other_kinds (tag_of kind-type def.kind)
+      pub named_other : {r : Put} {text' : List ℕ} → Among other_kinds (tag_of kind_type def.kind)
           → Echoes room (of_part pool names literals room row) text at r text'
           → Echoes room (of_named pool names refs types fields nodes literals variables room row s name) text at r text'
       unfolding of_named coerce_named when of_part
@@ -86,22 +86,22 @@ module _ (pool names refs types fields nodes literals variables : List ℕ) (roo
         shown = λ p j q. w.shown p j (rw (is_found_lem (type_named types name) e h, ← d, other_kind def.kind o) at q);
       }
 
-      pub named-unkeyed : def.kind ≡ kind.InputObject → Among unkeyed (tag_of shape-type s)
+      pub named_unkeyed : def.kind ≡ kind.InputObject → Among unkeyed (tag_of shape_type s)
           → Echoes room (of_named pool names refs types fields nodes literals variables room row s name) text at TooFar text
       unfolding input_object
-      named-unkeyed k o = never containers print room _ text at (λ p j q. go s o p j (as_object row s name type e h d k p j q))
+      named_unkeyed k o = never containers print room _ text at (λ p j q. go s o p j (as_object row s name type e h d k p j q))
         where
-          go : (s : Shape) → Among unkeyed (tag_of shape-type s) → (p : Path) (j : Json)
+          go : (s : Shape) → Among unkeyed (tag_of shape_type s) → (p : Path) (j : Json)
               → Comes (input_object pool names refs types fields nodes literals variables room (deeper p) p type row (shape_meant s)) j → ⊥
           go shape.Single o p j q = comes_failed literals error.CannotCoerce row p q
           go (shape.Listed rows) o p j q = comes_failed literals error.CannotCoerce row p q
           go (shape.Keyed rows) o p j q = absurd (miss unkeyed 2 tt (opened o))
 
-      pub named-object : {given : Range} {r : Put} {text' : List ℕ} → def.kind ≡ kind.InputObject → s ≡ shape.Keyed given
+      pub named_object : {given : Range} {r : Put} {text' : List ℕ} → def.kind ≡ kind.InputObject → s ≡ shape.Keyed given
           → EchoesFields pool names refs types fields nodes literals variables room (rows_in given) (rows_in def.fields) text at r text'
           → Echoes room (of_named pool names refs types fields nodes literals variables room row s name) text at r text'
       unfolding input_object known_object of_fields
-      named-object {given} k z w = record {
+      named_object {given} k z w = record {
         long = w.long;
         shown = λ p j q. w.shown (row, p) j (go p j (unknown_key types fields literals type (rows_in given)) (rw z at
             (as_object row s name type e h d k p j q)));
@@ -179,10 +179,10 @@ pub ruleset valuing = (form_shaped, value_null, value_variable, value_shaped)
 
 pub ruleset shaping = (listable, shape_named, shape_items, shape_unknown)
 
-pub ruleset naming = (literals_parted_lem, keyed_within, few_declared, named_undefined, named_other, named-unkeyed, named-object, shut)
+pub ruleset naming = (literals_parted_lem, keyed_within, few_declared, named_undefined, named_other, named_unkeyed, named_object, shut)
 
-pub ruleset itemizing = (items_full, items_begin, items-again, items-stopped, items_ended)
+pub ruleset itemizing = (items_full, items_begin, items_again, items_stopped, items_ended)
 
 pub ruleset fielding = (literals_parted_lem, field_given, field_default_lem, field_absent)
 
-pub ruleset opening = (fields_full, fields_begin, fields-again, fields-stopped, fields-ended)
+pub ruleset opening = (fields_full, fields_begin, fields_again, fields_stopped, fields_ended)

@@ -22,7 +22,7 @@ use Rattle.walking.proofs.Ended.{stopped_gives}
 use Rattle.resolving.specs.Steps.{doing}
 use Rattle.execution.specs.Ends.{planned_to, done_apart, stop_code}
 use Rattle.execution.specs.Walk.{Left, SetReady, ObjectReady, SetDone, ObjectDone}
-use Rattle.execution.proofs.Frame.{kept_all, left_same, left_then, left-ready, left-grouped, left-members}
+use Rattle.execution.proofs.Frame.{kept_all, left_same, left_then, left_ready, left_grouped, left_members}
 
 -- the tables of a request are its own
 pub own_tables : (Q : Request)
@@ -78,8 +78,8 @@ module _ {Q : Request} {plans spans hints : List ℕ} {path : Path} {s : State} 
       made : Made Q set plans s.top object own top plans1
       made = rw e at came
 
-      left-made : Left Q path.count plans spans hints s.top plans1 spans hints1 top
-      left-made = record {
+      left_made : Left Q path.count plans spans hints s.top plans1 spans hints1 top
+      left_made = record {
         further = made.further;
         kept = f.kept;
         standing = made.standing;
@@ -87,17 +87,17 @@ module _ {Q : Request} {plans spans hints : List ℕ} {path : Path} {s : State} 
         hinted = sized;
       }
 
-      pub object-set-ready : SetReady Q plans1 spans hints1 path (planned_to s top) own object rows
-      object-set-ready = record {
-        ready = left-ready left-made path (planned_to s top) refl h.ready.short h.ready;
+      pub object_set_ready : SetReady Q plans1 spans hints1 path (planned_to s top) own object rows
+      object_set_ready = record {
+        ready = left_ready left_made path (planned_to s top) refl h.ready.short h.ready;
         planned = record { set = set; right = made.right };
         leads = h.leads;
       }
 
-      pub object-set : {cs text errors text2 errors2 plans2 spans2 hints2 : List ℕ} {d : Done}
+      pub object_set : {cs text errors text2 errors2 plans2 spans2 hints2 : List ℕ} {d : Done}
           → SetDone Q cs text errors plans1 spans hints1 path (planned_to s top) own object rows d text2 errors2 plans2 spans2 hints2
           → ObjectDone Q cs text errors plans spans hints path s plan group object rows d text2 errors2 plans2 spans2 hints2
-      object-set q = record { left = left_then (omega arith) left-made q.left; executes = gone (q.executes set made.right) }
+      object_set q = record { left = left_then (omega arith) left_made q.left; executes = gone (q.executes set made.right) }
         where
           gone : {cs text errors text2 errors2 : List ℕ} {x : Res _} {d : Done} → Gives as_data cs text errors (planned_to s top) x d text2 errors2
               → Gives as_data cs text errors s x d text2 errors2
@@ -105,8 +105,8 @@ module _ {Q : Request} {plans spans hints : List ℕ} {path : Path} {s : State} 
 
     -- There is no room for one.
     module _ (e : p ≡ planned.NoRoom) where
-      left-none : Left Q path.count plans spans hints s.top plans1 spans hints1 s.top
-      left-none = record {
+      left_none : Left Q path.count plans spans hints s.top plans1 spans hints1 s.top
+      left_none = record {
         further = omega arith;
         kept = f.kept;
         standing = rw e at came;
@@ -114,20 +114,20 @@ module _ {Q : Request} {plans spans hints : List ℕ} {path : Path} {s : State} 
         hinted = sized;
       }
 
-      pub object-apart-ready : ObjectReady Q plans1 spans hints1 path s plan group object rows
-      object-apart-ready = record {
-        ready = left-ready left-none path s refl h.ready.short h.ready;
-        grouped = left-grouped left-none h.grouped;
+      pub object_apart_ready : ObjectReady Q plans1 spans hints1 path s plan group object rows
+      object_apart_ready = record {
+        ready = left_ready left_none path s refl h.ready.short h.ready;
+        grouped = left_grouped left_none h.grouped;
         known = h.known;
         leads = h.leads;
       }
 
-      pub object-apart : {cs text errors text2 errors2 spans2 hints2 : List ℕ} {d : Done}
+      pub object_apart : {cs text errors text2 errors2 spans2 hints2 : List ℕ} {d : Done}
           → ObjectDone Q cs text errors plans1 spans hints1 path s plan group object rows d text2 errors2 plans1 spans2 hints2
           → ObjectDone Q cs text errors plans spans hints path s plan group object rows d text2 errors2 plans1 spans2 hints2
-      object-apart q = record {
-        left = left_then (omega arith) left-none q.left;
-        executes = rw (left-members left-none h.grouped.planned h.grouped.has) at q.executes;
+      object_apart q = record {
+        left = left_then (omega arith) left_none q.left;
+        executes = rw (left_members left_none h.grouped.planned h.grouped.has) at q.executes;
       }
 
     -- The set cannot be collected.
@@ -183,27 +183,27 @@ module _ {Q : Request} {plans spans hints : List ℕ} {path : Path} {s : State} 
     alone = f.comes Q (own_tables Q)
 
     module _ {own top : ℕ} (e : p ≡ planned.At own top) where
-      made-alone : Made Q set store 0 object own top store1
-      made-alone = rw e at alone
+      made_alone : Made Q set store 0 object own top store1
+      made_alone = rw e at alone
 
-      pub apart-set-ready : SetReady Q store1 spans hints path (planned_to s top) own object rows
-      apart-set-ready = record {
+      pub apart_set_ready : SetReady Q store1 spans hints path (planned_to s top) own object rows
+      apart_set_ready = record {
         ready = record {
           sound = h.ready.sound;
-          standing = made-alone.standing;
+          standing = made_alone.standing;
           small = omega (arith, f.sized);
           spaced = h.ready.spaced;
           hinted = h.ready.hinted;
           short = h.ready.short;
         };
-        planned = record { set = set; right = made-alone.right };
+        planned = record { set = set; right = made_alone.right };
         leads = h.leads;
       }
 
-      pub apart-set : {cs text errors text2 errors2 store2 spans2 hints2 : List ℕ} {d r : Done} → r ≡ done_apart d s.top
+      pub apart_set : {cs text errors text2 errors2 store2 spans2 hints2 : List ℕ} {d r : Done} → r ≡ done_apart d s.top
           → SetDone Q cs text errors store1 spans hints path (planned_to s top) own object rows d text2 errors2 store2 spans2 hints2
           → ObjectDone Q cs text errors plans spans hints path s plan group object rows r text2 errors2 plans spans2 hints2
-      apart-set e q = rw e (record {
+      apart_set e q = rw e (record {
         left = record {
           further = omega arith;
           kept = kept_all plans (8 * s.top);
@@ -211,7 +211,7 @@ module _ {Q : Request} {plans spans hints : List ℕ} {path : Path} {s : State} 
           unspanned = q.left.unspanned;
           hinted = q.left.hinted;
         };
-        executes = gone (q.executes set made-alone.right);
+        executes = gone (q.executes set made_alone.right);
       })
         where
           gone : {cs text errors text2 errors2 : List ℕ} {x : Res _} {d : Done} → Gives as_data cs text errors (planned_to s top) x d text2 errors2

@@ -61,9 +61,9 @@ module _ {Q : Request} where
   module _ {depth : ℕ} {plans spans hints plans' spans' hints' : List ℕ} {top top' : ℕ} (l : Left Q depth plans spans hints top plans' spans' hints' top')
     where
       -- the next call may be made
-      pub left-ready : {path : Path} {s : State} (path' : Path) (s' : State) → s'.top ≡ top' → path'.count ≤ most_segments
+      pub left_ready : {path : Path} {s : State} (path' : Path) (s' : State) → s'.top ≡ top' → path'.count ≤ most_segments
           → Ready Q plans spans hints path s → Ready Q plans' spans' hints' path' s'
-      left-ready path' s' e k h = record {
+      left_ready path' s' e k h = record {
         sound = h.sound;
         standing = rw e l.standing;
         small = rw l.kept.sized h.small;
@@ -72,24 +72,24 @@ module _ {Q : Request} where
         short = k;
       }
 
-      pub left-plan : {plan object : ℕ} {set : List ℕ} → PlanOf Q plans top plan object set → PlanOf Q plans' top' plan object set
-      left-plan a = plan_on l.kept Q top' l.further l.standing.there a
+      pub left_plan : {plan object : ℕ} {set : List ℕ} → PlanOf Q plans top plan object set → PlanOf Q plans' top' plan object set
+      left_plan a = plan_on l.kept Q top' l.further l.standing.there a
 
-      pub left-planned : {plan object : ℕ} → PlannedFor Q plans top plan object → PlannedFor Q plans' top' plan object
-      left-planned a = record { set = a.set; right = left-plan a.right }
+      pub left_planned : {plan object : ℕ} → PlannedFor Q plans top plan object → PlannedFor Q plans' top' plan object
+      left_planned a = record { set = a.set; right = left_plan a.right }
 
-      pub left-count : {plan object : ℕ} → PlannedFor Q plans top plan object → group_count plans' plan ≡ group_count plans plan
-      left-count {plan} a = groups_on l.kept plan a.right.ends
+      pub left_count : {plan object : ℕ} → PlannedFor Q plans top plan object → group_count plans' plan ≡ group_count plans plan
+      left_count {plan} a = groups_on l.kept plan a.right.ends
 
-      pub left-members : {plan object group : ℕ} → PlannedFor Q plans top plan object → group < group_count plans plan
+      pub left_members : {plan object group : ℕ} → PlannedFor Q plans top plan object → group < group_count plans plan
           → members_of plans' plan group ≡ members_of plans plan group
-      left-members {plan} {group = group} a h = members_on l.kept plan a.right.ends group h
+      left_members {plan} {group = group} a h = members_on l.kept plan a.right.ends group h
 
       -- a group is as before
-      pub left-group : {plan object group : ℕ} → PlannedFor Q plans top plan object → group < group_count plans plan
+      pub left_group : {plan object group : ℕ} → PlannedFor Q plans top plan object → group < group_count plans plan
           → group_at Q.tables.selections plans' plan group ≡ group_at Q.tables.selections plans plan group
-      left-group {plan} {group = group} a h =
-          rw (word_on l.kept (plan + 1 + group) 0 (omega (arith, a.right.ends)) (omega arith), left-members a h)
+      left_group {plan} {group = group} a h =
+          rw (word_on l.kept (plan + 1 + group) 0 (omega (arith, a.right.ends)) (omega arith), left_members a h)
 
-      pub left-grouped : {plan group : ℕ} → Grouped Q plans top plan group → Grouped Q plans' top' plan group
-      left-grouped a = record { object = a.object; planned = left-planned a.planned; has = rw (left-count a.planned) a.has }
+      pub left_grouped : {plan group : ℕ} → Grouped Q plans top plan group → Grouped Q plans' top' plan group
+      left_grouped a = record { object = a.object; planned = left_planned a.planned; has = rw (left_count a.planned) a.has }

@@ -56,8 +56,8 @@ module _ {Q : Request} {plans spans hints : List ℕ} {path : Path} {s : State} 
     go_roomy = opens.roomy
 
     module _ (down : Path) (b : Below path dp.last down) where
-      ready-below : Ready Q plans spans hints down dp.state
-      ready-below = record {
+      ready_below : Ready Q plans spans hints down dp.state
+      ready_below = record {
         sound = h.ready.sound;
         standing = rw opens.level h.ready.standing;
         small = h.ready.small;
@@ -66,19 +66,19 @@ module _ {Q : Request} {plans spans hints : List ℕ} {path : Path} {s : State} 
         short = omega (arith, b.1, opens.roomy);
       }
 
-      pub go-list-ready : {inner : ℕ} {nullable : Bool} {rows : Range} → dp.container ≡ container.List inner nullable rows
+      pub go_list_ready : {inner : ℕ} {nullable : Bool} {rows : Range} → dp.container ≡ container.List inner nullable rows
           → ItemsReady Q plans spans hints down dp.state plan group dp.asked rows
-      go-list-ready f = record {
-        ready = ready-below;
+      go_list_ready f = record {
+        ready = ready_below;
         grouped = rw opens.level h.grouped;
         asking = opens.asking;
         leads = rw f at opens.contains;
       }
 
-      pub go-object-ready : {object : ℕ} {rows : Range} → dp.container ≡ container.Object object rows
+      pub go_object_ready : {object : ℕ} {rows : Range} → dp.container ≡ container.Object object rows
           → ObjectReady Q plans spans hints down dp.state plan group object rows
-      go-object-ready f = record {
-        ready = ready-below;
+      go_object_ready f = record {
+        ready = ready_below;
         grouped = rw opens.level h.grouped;
         known = (rw f at opens.contains).0;
         leads = (rw f at opens.contains).1;

@@ -22,7 +22,7 @@ use Rattle.walking.specs.declared.state.Kind.TheVariants as kind
 use Rattle.walking.specs.declared.state.Failure.{Failure}
 use Rattle.walking.specs.declared.state.Completed.TheVariants.{Placed, Fails}
 use Rattle.walking.specs.declared.state.Done.{Done}
-use Rattle.walking.proofs.Items.{listing, Listing, listing_begin, listing-again, listing-lost, listing_ended}
+use Rattle.walking.proofs.Items.{listing, Listing, listing_begin, listing_again, listing_lost, listing_ended}
 use Rattle.walking.proofs.Ended.{text_long}
 use Rattle.resolving.specs.Resolve.{Asks}
 use Rattle.resolving.specs.Sound.{asking, Itemizable}
@@ -31,7 +31,7 @@ use Rattle.resolving.specs.declared.resolve.Asked.{Asked}
 use Rattle.resolving.specs.declared.field.Step.{Step}
 use Rattle.resolving.specs.declared.field.Step.TheVariants as step
 use Rattle.execution.specs.Walk.{Left, Began, StepReady, ItemsReady, StepDone, ItemsDone, item_run}
-use Rattle.execution.proofs.Frame.{left_same, left_then, left-ready, left-group, left-grouped}
+use Rattle.execution.proofs.Frame.{left_same, left_then, left_ready, left_group, left_grouped}
 
 -- ---- Items by number
 
@@ -164,7 +164,7 @@ module _ (pool names refs types members fields arguments sets selections given f
 
     -- the group is still that of the plan
     same_group : group_at selections plans plan group ≡ g
-    same_group = left-group v.left h.grouped.planned h.grouped.has
+    same_group = left_group v.left h.grouped.planned h.grouped.has
 
     stepped : (args : Arguments) → Asks Q asked g args
         → Steps Q cs comma path g text errors state (item_run Q path g args inner (i, rows.first + i)) begun text1 errors1
@@ -173,8 +173,8 @@ module _ (pool names refs types members fields arguments sets selections given f
     -- what was begun may go on
     pub items_ready : StepReady Q plans spans hints path state plan group begun
     items_ready = record {
-      ready = left-ready v.left path state refl h.ready.short h.ready;
-      grouped = left-grouped v.left h.grouped;
+      ready = left_ready v.left path state refl h.ready.short h.ready;
+      grouped = left_grouped v.left h.grouped;
       began = rw same_group
           (steps_began Q cs comma path g text errors text1 errors1 state (item_run Q path g h.asking.args inner (i, rows.first + i)) begun
           (stepped h.asking.args h.asking.asks));
@@ -194,38 +194,38 @@ module _ (pool names refs types members fields arguments sets selections given f
       on : Left Q (suc path.count) plans₀ spans₀ hints₀ s.top plans2 spans2 hints2 d.state.top
       on = left_then (omega arith) v.left q.left
 
-      long-text : length text2 ≡ length text₀
-      long-text =
+      long_text : length text2 ≡ length text₀
+      long_text =
           q.same_text
           ∙ steps_text Q cs comma path g text errors text1 errors1 state (item_run Q path g h.asking.args inner (i, rows.first + i)) begun
           (stepped h.asking.args h.asking.asks)
           ∙ v.same_text
 
-      long-errors : length errors2 ≡ length errors₀
-      long-errors =
+      long_errors : length errors2 ≡ length errors₀
+      long_errors =
           q.same_errors
           ∙ steps_errors Q cs comma path g text errors text1 errors1 state (item_run Q path g h.asking.args inner (i, rows.first + i)) begun
           (stepped h.asking.args h.asking.asks)
           ∙ v.same_errors
 
       -- An item was completed.
-      pub items-again : {k : Kind} → d.what ≡ Placed k
+      pub items_again : {k : Kind} → d.what ≡ Placed k
           → Itemizing Q cs text₀ errors₀ plans₀ spans₀ hints₀ path s plan group asked inner rows text2 errors2 plans2 spans2 hints2 d.state (i + 1)
-      items-again e = let n : i + 1 ≡ suc i = omega arith in record {
+      items_again e = let n : i + 1 ≡ suc i = omega arith in record {
         left = on;
         few = omega arith;
-        same_text = long-text;
-        same_errors = long-errors;
-        listing = λ args a. rw n (listing-again (item_run Q path g args inner) cs _ text₀ errors₀ s (before args a) (gave args a) e);
+        same_text = long_text;
+        same_errors = long_errors;
+        listing = λ args a. rw n (listing_again (item_run Q path g args inner) cs _ text₀ errors₀ s (before args a) (gave args a) e);
       }
 
       -- One failed, and so does the list.
-      pub items-lost : {f : Failure} → d.what ≡ Fails f → ItemsDone Q cs text₀ errors₀ plans₀ spans₀ hints₀ path s plan group asked inner rows
+      pub items_lost : {f : Failure} → d.what ≡ Fails f → ItemsDone Q cs text₀ errors₀ plans₀ spans₀ hints₀ path s plan group asked inner rows
           (record { what = d.what; state = moved_to d.state s.at }) text2 errors2 plans2 spans2 hints2
       unfolding listing
-      items-lost e = record {
+      items_lost e = record {
         left = on;
-        same_text = long-text;
-        same_errors = long-errors;
-        completes = λ args a. listing-lost (item_run Q path g args inner) cs _ text₀ errors₀ s (before args a) (gave args a) e;
+        same_text = long_text;
+        same_errors = long_errors;
+        completes = λ args a. listing_lost (item_run Q path g args inner) cs _ text₀ errors₀ s (before args a) (gave args a) e;
       }

@@ -28,10 +28,10 @@ use Rattle.walking.proofs.Ended.{text_long}
 use Rattle.walking.proofs.RunLaws.{bind_at}
 use Rattle.walking.proofs.Groups.{whole}
 use Rattle.ordering.specs.Spans.{Clears, Tally, next_group, past_choice, Puts}
-use Rattle.ordering.proofs.Turns.{Turning, turning_begin, turning_ended, turning-tally, turning-there, turning-room, turning-lost, turning-again}
+use Rattle.ordering.proofs.Turns.{Turning, turning_begin, turning_ended, turning_tally, turning_there, turning_room, turning_lost, turning_again}
 use Rattle.resolving.specs.Steps.{doing}
 use Rattle.execution.specs.Walk.{Ready, Left, SetReady, FieldReady, SetDone, FieldDone}
-use Rattle.execution.proofs.Frame.{kept_then, left_same, left_then, left-ready, left-planned, left-count, left-group}
+use Rattle.execution.proofs.Frame.{kept_then, left_same, left_then, left_ready, left_planned, left_count, left_group}
 use Rattle.execution.proofs.Entering.{group_run, group_label}
 
 -- a group that there is not
@@ -134,22 +134,22 @@ module _ {Q : Request} {plans₀ spansE hints₀ : List ℕ} {path : Path} {s : 
         }
 
         module _ (lt : taken < groups) where
-          pub set-tally : Tally spans base groups low taken
-          set-tally = turning-tally _ _ _ _ _ _ _ _ _ v.turning lt
+          pub set_tally : Tally spans base groups low taken
+          set_tally = turning_tally _ _ _ _ _ _ _ _ _ v.turning lt
 
           module _ {i : ℕ} (nx : i ≡ next_group spans cs base groups taken state.choice) where
             there : i < groups
-            there = turning-there _ _ _ _ _ _ _ _ _ v.turning lt nx
+            there = turning_there _ _ _ _ _ _ _ _ _ v.turning lt nx
 
             has : i < group_count plans₀ plan
             has = omega (arith, there, n)
 
             -- the group's field may be entered
-            pub set-field-ready : {next : State} → next.top ≡ state.top → FieldReady Q plans spans hints path next plan i object rows
-            set-field-ready {next} e = record {
-              ready = left-ready v.left path next e h.ready.short ready;
-              planned = rw e (left-planned v.left h.planned);
-              has = rw (left-count v.left h.planned) has;
+            pub set_field_ready : {next : State} → next.top ≡ state.top → FieldReady Q plans spans hints path next plan i object rows
+            set_field_ready {next} e = record {
+              ready = left_ready v.left path next e h.ready.short ready;
+              planned = rw e (left_planned v.left h.planned);
+              has = rw (left_count v.left h.planned) has;
               leads = h.leads;
             }
 
@@ -161,29 +161,29 @@ module _ {Q : Request} {plans₀ spansE hints₀ : List ℕ} {path : Path} {s : 
                     (record { at = state.at; errs = state.errs; choice = ch; top = state.top })
                     (group_run Q path object rows (get_or (groups_at Q.tables.selections plans₀ plan) i none') (drop ch cs)) d text2 errors2
                 its =
-                    as-group _ _ (left-group v.left h.planned has ∙ sym (groups_get Q.tables.selections plans₀ plan i none' has)) q.enters
+                    as_group _ _ (left_group v.left h.planned has ∙ sym (groups_get Q.tables.selections plans₀ plan i none' has)) q.enters
                   where
-                    as-group : (g g' : Group) → g ≡ g'
+                    as_group : (g g' : Group) → g ≡ g'
                         → Gives (as_entry (group_label Q g)) cs text errors (record { at = state.at; errs = state.errs; choice = ch; top = state.top })
                         (group_run Q path object rows g (drop ch cs)) d text2 errors2
                         → Gives (as_entry (group_label Q g')) cs text errors (record { at = state.at; errs = state.errs; choice = ch; top = state.top })
                         (group_run Q path object rows g' (drop ch cs)) d text2 errors2
-                    as-group g g' e k = rw (← e) k
+                    as_group g g' e k = rw (← e) k
 
                 on : Left Q path.count plans₀ spans₀ hints₀ s.top plans2 spans2 hints2 d.state.top
                 on = left_then (omega arith) v.left q.left
 
                 -- Its span is there.
                 pub set_room : base + i < length spans2
-                set_room = turning-room _ _ _ _ _ _ _ _ _ v.turning lt nx spans2 q.left.unspanned.sized
+                set_room = turning_room _ _ _ _ _ _ _ _ _ v.turning lt nx spans2 q.left.unspanned.sized
 
                 -- The set is given up.
-                pub set-lost : {f : Failure} → d.what ≡ Fails f
+                pub set_lost : {f : Failure} → d.what ≡ Fails f
                     → SetDone Q cs text₀ errors₀ plans₀ spansE hints₀ path s plan object rows
                     (passed_list (record { what = d.what; state = moved_to d.state s.at })) text2 errors2 plans2 spans2 hints2
-                set-lost f = record {
+                set_lost f = record {
                   left = since on;
-                  executes = λ set p. rw (set_whole cs text₀ errors₀ set p) (turning-lost _ _ _ _ _ _ _ _ _ v.turning lt nx e its f);
+                  executes = λ set p. rw (set_whole cs text₀ errors₀ set p) (turning_lost _ _ _ _ _ _ _ _ _ v.turning lt nx e its f);
                 }
 
                 -- The entry goes to its place.
@@ -205,6 +205,6 @@ module _ {Q : Request} {plans₀ spansE hints₀ : List ℕ} {path : Path} {s : 
                   same_text = long ∙ text_long its ∙ v.same_text;
                   same_errors = its.noted.long ∙ v.same_errors;
                   turning =
-                      turning-again _ _ _ _ _ _ _ _ _ v.turning lt nx e its w q.left.unspanned.sized
+                      turning_again _ _ _ _ _ _ _ _ _ v.turning lt nx e its w q.left.unspanned.sized
                       (λ j l. q.left.unspanned.same j (omega (arith, v.based))) p;
                 }

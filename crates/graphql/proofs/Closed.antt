@@ -76,35 +76,35 @@ module _ {P : (A : Type 0) → M A → Type 0} {p : Path} (C : Closed P p) where
 
   module _ (types members sets selections fragments variables nodes : List ℕ) where
     module _ {open' : ℕ → ℕ → Collected → M Collected} (h : (o s : ℕ) (c : Collected) → P Collected (open' o s c)) (object : ℕ) where
-      fragment-closed : (f : Option ℕ) (c : Collected) → P Collected (enter_fragment types members sets selections fragments variables nodes open' object f c)
+      fragment_closed : (f : Option ℕ) (c : Collected) → P Collected (enter_fragment types members sets selections fragments variables nodes open' object f c)
       unfolding enter_fragment
-      fragment-closed none c = search closed
-      fragment-closed (some f) c = search closed
+      fragment_closed none c = search closed
+      fragment_closed (some f) c = search closed
 
-      spread-closed : (n : ℕ) (c : Collected) → P Collected (spread types members sets selections fragments variables nodes open' object n c)
+      spread_closed : (n : ℕ) (c : Collected) → P Collected (spread types members sets selections fragments variables nodes open' object n c)
       unfolding spread
-      spread-closed n c = search (closed, fragment-closed)
+      spread_closed n c = search (closed, fragment_closed)
 
-      selected-closed : (row : ℕ) (s : Selected) (c : Collected) → P Collected (collect_selected types members sets selections fragments variables nodes open' object row s c)
+      selected_closed : (row : ℕ) (s : Selected) (c : Collected) → P Collected (collect_selected types members sets selections fragments variables nodes open' object row s c)
       unfolding collect_selected
-      selected-closed row (selected.Field f) c = field_closed f.key row c
-      selected-closed row (selected.Spread n) c = spread-closed n c
-      selected-closed row (selected.Inline type set) c = search closed
-      selected-closed row selected.Unknown c = search closed
+      selected_closed row (selected.Field f) c = field_closed f.key row c
+      selected_closed row (selected.Spread n) c = spread_closed n c
+      selected_closed row (selected.Inline type set) c = search closed
+      selected_closed row selected.Unknown c = search closed
 
-      fields-closed : (rows : List ℕ) (c : Collected) → P Collected (collect_fields types members sets selections fragments variables nodes open' object rows c)
+      fields_closed : (rows : List ℕ) (c : Collected) → P Collected (collect_fields types members sets selections fragments variables nodes open' object rows c)
       unfolding collect_fields
-      fields-closed [] c = search closed
-      fields-closed (row ∷ rest) c = C.of_bind (C.of_when _ (C.of_pure c) (selected-closed row _ c)) (λ d. fields-closed rest d)
+      fields_closed [] c = search closed
+      fields_closed (row ∷ rest) c = C.of_bind (C.of_when _ (C.of_pure c) (selected_closed row _ c)) (λ d. fields_closed rest d)
 
     within_closed : (room object set : ℕ) (c : Collected) → P Collected (collect_within types members sets selections fragments variables nodes room object set c)
     unfolding collect_within
     within_closed zero object set c = search closed
-    within_closed (suc room) object set c = fields-closed (within_closed room) object _ c
+    within_closed (suc room) object set c = fields_closed (within_closed room) object _ c
 
     pub collect_closed : (object : ℕ) (rows : List ℕ) → P (List Group) (collect types members sets selections fragments variables nodes object rows)
     unfolding collect
-    collect_closed object rows = C.of_bind (fields-closed (within_closed 32) object rows _) (λ c. C.of_pure _)
+    collect_closed object rows = C.of_bind (fields_closed (within_closed 32) object rows _) (λ c. C.of_pure _)
 
   -- ---- Values
 
@@ -172,109 +172,109 @@ module _ {P : (A : Type 0) → M A → Type 0} {p : Path} (C : Closed P p) where
     coerce_variable_closed ty row (some v) = search (closed, fail_at_closed, variable_closed)
 
     module _ (room : ℕ) {inside : ℕ → ℕ → M Json} (h : (ty row : ℕ) → P Json (inside ty row)) where
-      coerceItems-closed : (inner : ℕ) (rows : List ℕ) → P Json (coerce_items pool names refs types fields nodes literals variables room inside p inner rows)
+      coerce_items_closed : (inner : ℕ) (rows : List ℕ) → P Json (coerce_items pool names refs types fields nodes literals variables room inside p inner rows)
       unfolding coerce_items
-      coerceItems-closed inner rows = search closed
+      coerce_items_closed inner rows = search closed
 
-      inputField-closed : (row f : ℕ) (given : Option ℕ) (default : Optional)
+      input_field_closed : (row f : ℕ) (given : Option ℕ) (default : Optional)
           → P (Option Json) (input_field pool names refs types fields nodes literals variables room inside p row f given default)
       unfolding input_field
-      inputField-closed row f (some given) default = search closed
-      inputField-closed row f none (optional.Row default) = search (closed, part_by_part_closed)
-      inputField-closed row f none optional.Absent = search (closed, fail_at_closed)
+      input_field_closed row f (some given) default = search closed
+      input_field_closed row f none (optional.Row default) = search (closed, part_by_part_closed)
+      input_field_closed row f none optional.Absent = search (closed, fail_at_closed)
 
-      inputFields-closed : (row : ℕ) (given declared : List ℕ)
+      input_fields_closed : (row : ℕ) (given declared : List ℕ)
           → P Json (input_fields pool names refs types fields nodes literals variables room inside p row given declared)
       unfolding input_fields
-      inputFields-closed row given declared =
-          c_opened room (C.of_bind (C.of_in_order (λ f. inputField-closed row f _ _) declared) (λ js. C.of_pure _))
+      input_fields_closed row given declared =
+          c_opened room (C.of_bind (C.of_in_order (λ f. input_field_closed row f _ _) declared) (λ js. C.of_pure _))
 
-      known-closed : (type row : ℕ) (given : List ℕ) (key : Option ℕ)
+      known_closed : (type row : ℕ) (given : List ℕ) (key : Option ℕ)
           → P Json (known_object pool names refs types fields nodes literals variables room inside p type row given key)
       unfolding known_object
-      known-closed type row given (some key) = fail_at_closed _ row
-      known-closed type row given none = inputFields-closed row given _
+      known_closed type row given (some key) = fail_at_closed _ row
+      known_closed type row given none = input_fields_closed row given _
 
-      inputObject-closed : (type row : ℕ) (shape : Shape)
+      input_object_closed : (type row : ℕ) (shape : Shape)
           → P Json (input_object pool names refs types fields nodes literals variables room inside p type row shape)
       unfolding input_object
-      inputObject-closed type row single = fail_at_closed _ row
-      inputObject-closed type row (listed rows) = fail_at_closed _ row
-      inputObject-closed type row (keyed rows) = known-closed type row _ _
+      input_object_closed type row single = fail_at_closed _ row
+      input_object_closed type row (listed rows) = fail_at_closed _ row
+      input_object_closed type row (keyed rows) = known_closed type row _ _
 
-      coerceNamed-closed : (row : ℕ) (shape : Shape) (type : Option ℕ)
+      coerce_named_closed : (row : ℕ) (shape : Shape) (type : Option ℕ)
           → P Json (coerce_named pool names refs types fields nodes literals variables room inside p row shape type)
       unfolding coerce_named
-      coerceNamed-closed row shape none = fail_at_closed _ row
-      coerceNamed-closed row shape (some type) = search (closed, inputObject-closed, part_by_part_closed)
+      coerce_named_closed row shape none = fail_at_closed _ row
+      coerce_named_closed row shape (some type) = search (closed, input_object_closed, part_by_part_closed)
 
-      coerceShape-closed : (row : ℕ) (shape : Shape) (t : TypeRef)
+      coerce_shape_closed : (row : ℕ) (shape : Shape) (t : TypeRef)
           → P Json (coerce_shape pool names refs types fields nodes literals variables room inside p row shape t)
       unfolding coerce_shape
-      coerceShape-closed row shape (ref.Named name nullable) = coerceNamed-closed row shape _
-      coerceShape-closed row shape (ref.ListOf inner nullable) = coerceItems-closed inner _
-      coerceShape-closed row shape ref.Unknown = fail_at_closed _ row
+      coerce_shape_closed row shape (ref.Named name nullable) = coerce_named_closed row shape _
+      coerce_shape_closed row shape (ref.ListOf inner nullable) = coerce_items_closed inner _
+      coerce_shape_closed row shape ref.Unknown = fail_at_closed _ row
 
-      coerceLiteral-closed : (ty row : ℕ) (l : LiteralForm)
+      coerce_literal_closed : (ty row : ℕ) (l : LiteralForm)
           → P Json (coerce_literal pool names refs types fields nodes literals variables room inside p ty row l)
       unfolding coerce_literal
-      coerceLiteral-closed ty row null_given = search (closed, fail_at_closed)
-      coerceLiteral-closed ty row (variable name) = coerce_variable_closed ty row _
-      coerceLiteral-closed ty row (shaped shape) = coerceShape-closed row shape _
+      coerce_literal_closed ty row null_given = search (closed, fail_at_closed)
+      coerce_literal_closed ty row (variable name) = coerce_variable_closed ty row _
+      coerce_literal_closed ty row (shaped shape) = coerce_shape_closed row shape _
 
     value_closed : (room ty row : ℕ) → P Json (coerce_argument_value pool names refs types fields nodes literals variables room p ty row)
     unfolding coerce_argument_value
-    value_closed zero ty row = coerceLiteral-closed zero (λ ty' row'. C.of_far) ty row _
-    value_closed (suc room) ty row = coerceLiteral-closed (suc room) (value_closed room) ty row _
+    value_closed zero ty row = coerce_literal_closed zero (λ ty' row'. C.of_far) ty row _
+    value_closed (suc room) ty row = coerce_literal_closed (suc room) (value_closed room) ty row _
 
     module _ (arguments given : List ℕ) where
-      argumentError-closed : {A : Type 0} (e : FieldError) (argument : ℕ)
+      argument_error_closed : {A : Type 0} (e : FieldError) (argument : ℕ)
           → P A (argument_error pool names refs types fields nodes literals variables arguments given e p argument)
       unfolding argument_error
-      argumentError-closed e argument = C.of_error _ _ _ _
+      argument_error_closed e argument = C.of_error _ _ _ _
 
-      valued-closed : (argument : ℕ) {m : M Json} → P Json m → P Arguments (valued pool names refs types fields nodes literals variables arguments given argument m)
+      valued_closed : (argument : ℕ) {m : M Json} → P Json m → P Arguments (valued pool names refs types fields nodes literals variables arguments given argument m)
       unfolding valued
-      valued-closed argument h = search closed
+      valued_closed argument h = search closed
 
       default_closed_lem : (argument : ℕ) (default : Optional)
           → P Arguments (default_argument pool names refs types fields nodes literals variables arguments given p argument default)
       unfolding default_argument
-      default_closed_lem argument (optional.Row default) = valued-closed argument (part_by_part_closed pool names literals 32 default)
-      default_closed_lem argument optional.Absent = search (closed, argumentError-closed)
+      default_closed_lem argument (optional.Row default) = valued_closed argument (part_by_part_closed pool names literals 32 default)
+      default_closed_lem argument optional.Absent = search (closed, argument_error_closed)
 
-      variableArgument-closed : (argument : ℕ) (v : Option ℕ)
+      variable_argument_closed : (argument : ℕ) (v : Option ℕ)
           → P Arguments (variable_argument pool names refs types fields nodes literals variables arguments given p argument v)
       unfolding variable_argument
-      variableArgument-closed argument none = default_closed_lem argument _
-      variableArgument-closed argument (some v) = search (closed, argumentError-closed, valued-closed, variable_closed)
+      variable_argument_closed argument none = default_closed_lem argument _
+      variable_argument_closed argument (some v) = search (closed, argument_error_closed, valued_closed, variable_closed)
 
-      literalArgument-closed : (argument row : ℕ)
+      literal_argument_closed : (argument row : ℕ)
           → P Arguments (literal_argument pool names refs types fields nodes literals variables arguments given p argument row)
       unfolding literal_argument
-      literalArgument-closed argument row = valued-closed argument (value_closed 32 _ row)
+      literal_argument_closed argument row = valued_closed argument (value_closed 32 _ row)
 
-      givenArgument-closed : (argument row : ℕ) (l : LiteralForm)
+      given_argument_closed : (argument row : ℕ) (l : LiteralForm)
           → P Arguments (given_argument pool names refs types fields nodes literals variables arguments given p argument row l)
       unfolding given_argument
-      givenArgument-closed argument row null_given = search (closed, argumentError-closed, literalArgument-closed)
-      givenArgument-closed argument row (variable name) = variableArgument-closed argument _
-      givenArgument-closed argument row (shaped shape) = literalArgument-closed argument row
+      given_argument_closed argument row null_given = search (closed, argument_error_closed, literal_argument_closed)
+      given_argument_closed argument row (variable name) = variable_argument_closed argument _
+      given_argument_closed argument row (shaped shape) = literal_argument_closed argument row
 
-      coerceArgument-closed : (argument : ℕ) (g : Option ℕ)
+      coerce_argument_closed : (argument : ℕ) (g : Option ℕ)
           → P Arguments (coerce_argument pool names refs types fields nodes literals variables arguments given p argument g)
       unfolding coerce_argument
-      coerceArgument-closed argument none = default_closed_lem argument _
-      coerceArgument-closed argument (some g) = givenArgument-closed argument _ _
+      coerce_argument_closed argument none = default_closed_lem argument _
+      coerce_argument_closed argument (some g) = given_argument_closed argument _ _
 
-      arguments-closed : (definitions written : Range)
+      arguments_closed : (definitions written : Range)
           → P Arguments (coerce_argument_values pool names refs types fields nodes literals variables arguments given p definitions written)
       unfolding coerce_argument_values
-      arguments-closed definitions written = C.of_bind (C.of_in_order (λ argument. coerceArgument-closed argument _) _) (λ each. C.of_pure _)
+      arguments_closed definitions written = C.of_bind (C.of_in_order (λ argument. coerce_argument_closed argument _) _) (λ each. C.of_pure _)
 
   pub coerce_arguments_closed : (Q : Request) (definitions written : Range) → P Arguments (coerce_arguments Q p definitions written)
   unfolding coerce_arguments
-  coerce_arguments_closed Q definitions written = arguments-closed _ _ _ _ _ _ _ _ _ _ definitions written
+  coerce_arguments_closed Q definitions written = arguments_closed _ _ _ _ _ _ _ _ _ _ definitions written
 
   -- ---- Resolve
 

@@ -130,10 +130,10 @@ module _ (Q : Request) {tree : Data} {log : Log} {spot : Spot} where
   null_explained {w} h e x =
       let d : nulled ≡ tree = cc in
       let l : w ≡ log = cc in
-      at-root (subst (λ (w : Log). Hit Q [] w) l h) (subst (λ (d : Data). NullAt d spot) (sym d) x)
+      at_root (subst (λ (w : Log). Hit Q [] w) l h) (subst (λ (d : Data). NullAt d spot) (sym d) x)
     where
-      at-root : {spot : Spot} → Hit Q [] log → NullAt nulled spot → Explained Q spot log
-      at-root h itself = hit_explained Q [] log h
+      at_root : {spot : Spot} → Hit Q [] log → NullAt nulled spot → Explained Q spot log
+      at_root h itself = hit_explained Q [] log h
 
   end_explained : (x : Res Data) → Post (Hit Q []) (DataHere Q []) x → ended x ≡ answered_with tree log → NoneSkipped log → NullAt tree spot → Explained Q spot log
   unfolding ended

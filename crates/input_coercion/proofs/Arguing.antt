@@ -112,16 +112,16 @@ module _ (refs types fields nodes literals variables arguments given : List ℕ)
 
   module _ {at : ℕ} {value : Given} {f : Form} (h : found ≡ Row at) (v : value ≡ given_at given at) (l : FormAt literals value.literal f) where
     module _ {b : Bool} (k : f ≡ form.Null) (g : b ≡ non_null refs argument.ty) where
-      pub argument-null : {r : Coercion} → b ≡ true → r ≡ argument_fails error.NullArgument argument
+      pub argument_null : {r : Coercion} → b ≡ true → r ≡ argument_fails error.NullArgument argument
           → Checks (of_argument refs types fields nodes literals variables arguments given written row) r
       unfolding of_argument coerce_argument given_argument is_non_null argument_error when error_of place_of place_among
-      argument-null t m = record {
+      argument_null t m = record {
         ends = λ pool names p. rw (← a, is_found_lem (given_named given argument.name (rows_in written)) e h, ← v, l.is, k, ← a, ← g, t, m) (λ c. refl);
       }
 
-      pub argument-nothing : b ≡ false → Checks (of_argument refs types fields nodes literals variables arguments given written row) coercion.Value
+      pub argument_nothing : b ≡ false → Checks (of_argument refs types fields nodes literals variables arguments given written row) coercion.Value
       unfolding of_argument coerce_argument given_argument is_non_null literal_argument valued when of_value
-      argument-nothing t = record {
+      argument_nothing t = record {
         ends = λ pool names p.
             rw (← a, is_found_lem (given_named given argument.name (rows_in written)) e h, ← v, l.is, k, ← a, ← g, t)
             (ends_made p _ _ coercion.Value ((value_null refs types fields nodes literals variables most_open argument.ty value.literal l k g t).ends pool names p));
@@ -144,7 +144,7 @@ module _ (refs types fields nodes literals variables arguments given : List ℕ)
           rw (← a, is_found_lem (given_named given argument.name (rows_in written)) e h, ← v, l.is, k, ← a) (ends_made p _ _ r' (q.ends pool names p));
     }
 
-pub ruleset arguing = (argument_default_lem, argument-null, argument-nothing, argument_variable, argument_shaped)
+pub ruleset arguing = (argument_default_lem, argument_null, argument_nothing, argument_variable, argument_shaped)
 
 -- ---- all arguments
 

@@ -55,11 +55,11 @@ module _ (refs types fields nodes literals variables : List ℕ) where
 
     module _ (rows : Range) (z : room ≡ 0 → ⊥) {i : ℕ}
         (g : Going (of_value refs types fields nodes literals variables (room - 1) inner) rows.first rows.count i) where
-      pub items-stopped : {r : Coercion} → i < rows.count
+      pub items_stopped : {r : Coercion} → i < rows.count
           → Checks (of_value refs types fields nodes literals variables (room - 1) inner (rows.first + i)) r → Stopped r
           → Checks (of_items refs types fields nodes literals variables room inner (rows_in rows)) r
       unfolding rows_in
-      items-stopped l q s = items_made (rows_from rows.first rows.count) z (going_stopped _ rows.first rows.count g l q s)
+      items_stopped l q s = items_made (rows_from rows.first rows.count) z (going_stopped _ rows.first rows.count g l q s)
 
       pub items_ended : rows.count ≤ i → Checks (of_items refs types fields nodes literals variables room inner (rows_in rows)) coercion.Value
       unfolding rows_in
@@ -83,10 +83,10 @@ module _ (refs types fields nodes literals variables : List ℕ) where
           record { ends = λ pool names p. rw (not_found (given_for fields literals given field) e h, ← d, k, s) (ends_made p (part_by_part pool names literals room default') some r' (q.ends pool names p)) }
 
       module _ {b : Bool} (k : def.default ≡ Absent) (g : b ≡ non_null refs def.ty) where
-        pub field-missing : {r : Coercion} → b ≡ true → r ≡ literal_fails literals error.MissingInputField row
+        pub field_missing : {r : Coercion} → b ≡ true → r ≡ literal_fails literals error.MissingInputField row
             → Checks (of_field refs types fields nodes literals variables room row given field) r
         unfolding of_field input_field when place_of
-        field-missing t f = record {
+        field_missing t f = record {
           ends = λ pool names p. rw (not_found (given_for fields literals given field) e h, ← d, k, ← d, ← g, t, f) (fails literals error.MissingInputField row p refl);
         }
 
@@ -128,12 +128,12 @@ module _ (refs types fields nodes literals variables : List ℕ) where
 
     module _ (declared : Range) (z : room ≡ 0 → ⊥) {i : ℕ}
         (g : Going (of_field refs types fields nodes literals variables (room - 1) row given) declared.first declared.count i) where
-      pub fields-stopped : {r : Coercion} → i < declared.count
+      pub fields_stopped : {r : Coercion} → i < declared.count
           → Checks (of_field refs types fields nodes literals variables (room - 1) row given (declared.first + i)) r → Stopped r
           → Checks (of_fields refs types fields nodes literals variables room row given (rows_in declared)) r
       unfolding rows_in
-      fields-stopped l q s = fields_made (rows_from declared.first declared.count) z (going_stopped _ declared.first declared.count g l q s)
+      fields_stopped l q s = fields_made (rows_from declared.first declared.count) z (going_stopped _ declared.first declared.count g l q s)
 
-      pub fields-ended : declared.count ≤ i → Checks (of_fields refs types fields nodes literals variables room row given (rows_in declared)) coercion.Value
+      pub fields_ended : declared.count ≤ i → Checks (of_fields refs types fields nodes literals variables room row given (rows_in declared)) coercion.Value
       unfolding rows_in
-      fields-ended l = fields_made (rows_from declared.first declared.count) z (going_ended _ declared.first declared.count g l)
+      fields_ended l = fields_made (rows_from declared.first declared.count) z (going_ended _ declared.first declared.count g l)

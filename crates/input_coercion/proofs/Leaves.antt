@@ -18,8 +18,8 @@ use Rattle.rows.specs.declared.json.Node.TheVariants as node
 use Rattle.rows.specs.declared.json.Literal.{Literal}
 use Rattle.rows.specs.declared.json.Literal.TheVariants as literal
 use Rattle.rows.specs.declared.json.VariableValue.{VariableValue}
-use Rattle.rows.specs.contracts.json.Node.{the_type as node-type}
-use Rattle.rows.specs.contracts.json.Literal.{the_type as literal-type}
+use Rattle.rows.specs.contracts.json.Node.{the_type as node_type}
+use Rattle.rows.specs.contracts.json.Literal.{the_type as literal_type}
 use Rattle.graphql.specs.Lookup.{rows_from, rows_in, non_null}
 use Rattle.graphql.specs.Values.{node_form, literal_form}
 use Rattle.graphql.specs.Values as defined
@@ -29,7 +29,7 @@ use Rattle.input_coercion.specs.Coerced.{shape_meant, FormAt, ItemsAt, Listable}
 use Rattle.input_coercion.specs.declared.check.Shape.{Shape}
 use Rattle.input_coercion.specs.declared.check.Shape.TheVariants as shape
 use Rattle.input_coercion.specs.declared.check.Form.TheVariants as form
-use Rattle.input_coercion.specs.contracts.check.Shape.{the_type as shape-type}
+use Rattle.input_coercion.specs.contracts.check.Shape.{the_type as shape_type}
 
 -- what was looked for is there or not
 pub not_found : (o : Option ℕ) {found : Optional} → found ≡ row_of o → found ≡ Absent → o ≡ none
@@ -51,7 +51,7 @@ is_found_lem o {row = row} e h = go o (sym h ∙ e)
 abbrev others : List ℕ
 others = 1 ∷ 2 ∷ 3 ∷ 4 ∷ 5 ∷ 6 ∷ 7 ∷ 8 ∷ 9 ∷ []
 
-no_null_lem : (n : Node) → Among others (tag_of node-type n) → is_null_form (node_form n) ≡ false
+no_null_lem : (n : Node) → Among others (tag_of node_type n) → is_null_form (node_form n) ≡ false
 unfolding is_null_form node_form
 no_null_lem node.Null o = absurd (miss others 0 tt (opened o))
 no_null_lem node.False o = refl
@@ -69,7 +69,7 @@ module _ (refs nodes variables : List ℕ) (ty row : ℕ) {v : VariableValue} {n
   unfolding null_against is_null_form node_form
   a_null_lem h g = rw (← e, ← f, h) g
 
-  pub no_null_there : Among others (tag_of node-type n) → false ≡ null_against refs nodes variables ty row
+  pub no_null_there : Among others (tag_of node_type n) → false ≡ null_against refs nodes variables ty row
   unfolding null_against
   no_null_there o = rw (← e, ← f, no_null_lem n o)
 
@@ -80,7 +80,7 @@ pub ruleset against = (a_null_lem, no_null_there, shut)
 abbrev singles : List ℕ
 singles = 1 ∷ 2 ∷ 3 ∷ 4 ∷ 5 ∷ 6 ∷ 9 ∷ 11 ∷ []
 
-single_form : (l : Literal) → Among singles (tag_of literal-type l) → literal_form l ≡ defined.shaped defined.single
+single_form : (l : Literal) → Among singles (tag_of literal_type l) → literal_form l ≡ defined.shaped defined.single
 unfolding literal_form
 single_form literal.Null o = absurd (miss singles 0 tt (opened o))
 single_form literal.False o = refl
@@ -112,7 +112,7 @@ module _ (literals : List ℕ) (row : ℕ) {l : Literal} (e : l ≡ literal_at l
   unfolding literal_form
   form_object h = record { is = rw (← e, h) }
 
-  pub form_single : Among singles (tag_of literal-type l) → FormAt literals row (form.Shaped shape.Single)
+  pub form_single : Among singles (tag_of literal_type l) → FormAt literals row (form.Shaped shape.Single)
   form_single o = record { is = rw (← e) (single_form l o) }
 
 pub ruleset forms = (form_null, form_variable, form_list, form_object, form_single, shut)
@@ -127,11 +127,11 @@ module _ (row : ℕ) (s : Shape) where
   unfolding items_of
   items_listed {rows} w h = record { are = rw h; words = omega (arith, w.few rows h) }
 
-  pub items_wrapped : row < 4294967296 → Among unlisted (tag_of shape-type s) → ItemsAt row s (record { first = row; count = 1 })
+  pub items_wrapped : row < 4294967296 → Among unlisted (tag_of shape_type s) → ItemsAt row s (record { first = row; count = 1 })
   unfolding items_of rows_in rows_from
   items_wrapped l o = record { are = go s o; words = omega arith }
     where
-      go : (s : Shape) → Among unlisted (tag_of shape-type s) → row ∷ [] ≡ items_of row (shape_meant s)
+      go : (s : Shape) → Among unlisted (tag_of shape_type s) → row ∷ [] ≡ items_of row (shape_meant s)
       go shape.Single o = refl
       go (shape.Listed rows) o = absurd (miss unlisted 1 tt (opened o))
       go (shape.Keyed rows) o = refl

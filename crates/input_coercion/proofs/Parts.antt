@@ -12,7 +12,7 @@ use Rattle.rows.specs.Json.{literal_at}
 use Rattle.rows.specs.declared.layout.Range.{Range}
 use Rattle.rows.specs.declared.json.Literal.{Literal}
 use Rattle.rows.specs.declared.json.Literal.TheVariants as literal
-use Rattle.rows.specs.contracts.json.Literal.{the_type as literal-type}
+use Rattle.rows.specs.contracts.json.Literal.{the_type as literal_type}
 use Rattle.graphql.specs.Run.{Path, M, pure, halt, onward, ◌>>=◌}
 use Rattle.graphql.specs.Json.{Json}
 use Rattle.graphql.specs.Lookup.{rows_from, rows_in}
@@ -43,7 +43,7 @@ abbrev plains : List ℕ
 plains = 0 ∷ 1 ∷ 2 ∷ 3 ∷ 4 ∷ 5 ∷ 6 ∷ 9 ∷ 11 ∷ []
 
 module _ (literals pool names : List ℕ) (room : ℕ) where
-  plain_valued : (inside : ℕ → M Json) (l : Literal) → Among plains (tag_of literal-type l) → Valued (parts_of pool names literals room inside l)
+  plain_valued : (inside : ℕ → M Json) (l : Literal) → Among plains (tag_of literal_type l) → Valued (parts_of pool names literals room inside l)
   unfolding parts_of
   plain_valued inside literal.Null o = value_pure _
   plain_valued inside literal.False o = value_pure _
@@ -67,25 +67,25 @@ module _ (literals pool names : List ℕ) (room : ℕ) where
       go (suc n) = refl
 
 module _ (literals : List ℕ) (room row : ℕ) {l : Literal} (e : l ≡ literal_at literals row) where
-  pub part-list : {rows : Range} {r : Coercion} → l ≡ literal.List rows → Checks (of_parts literals room rows) r → Checks (of_part literals room row) r
+  pub part_list : {rows : Range} {r : Coercion} → l ≡ literal.List rows → Checks (of_parts literals room rows) r → Checks (of_part literals room row) r
   unfolding of_part of_parts parts_of array_of
-  part-list {r = r'} h q = record {
+  part_list {r = r'} h q = record {
     ends = λ pool names p. rw (by_literal literals pool names room row, ← e, h) (opened_made p room _ _ r' (q.ends pool names p));
   }
 
-  pub part-object : {rows : Range} {r : Coercion} → l ≡ literal.Object rows → Checks (of_parts literals room rows) r → Checks (of_part literals room row) r
+  pub part_object : {rows : Range} {r : Coercion} → l ≡ literal.Object rows → Checks (of_parts literals room rows) r → Checks (of_part literals room row) r
   unfolding of_part of_parts parts_of object_of
-  part-object {r = r'} h q = record {
+  part_object {r = r'} h q = record {
     ends = λ pool names p. rw (by_literal literals pool names room row, ← e, h) (opened_made p room _ _ r' (q.ends pool names p));
   }
 
-  pub part-variable : {name : ℕ} → l ≡ literal.Variable name → Checks (of_part literals room row) coercion.VariableInLiteral
+  pub part_variable : {name : ℕ} → l ≡ literal.Variable name → Checks (of_part literals room row) coercion.VariableInLiteral
   unfolding of_part parts_of
-  part-variable h = record { ends = λ pool names p c. rw (by_literal literals pool names room row, ← e, h) }
+  part_variable h = record { ends = λ pool names p c. rw (by_literal literals pool names room row, ← e, h) }
 
-  pub part-plain : Among plains (tag_of literal-type l) → Checks (of_part literals room row) coercion.Value
+  pub part_plain : Among plains (tag_of literal_type l) → Checks (of_part literals room row) coercion.Value
   unfolding of_part
-  part-plain o = record {
+  part_plain o = record {
     ends = λ pool names p. rw (by_literal literals pool names room row, ← e) (plain_valued literals pool names room (part_inside literals room pool names) l o);
   }
 
@@ -123,4 +123,4 @@ module _ (literals : List ℕ) (room : ℕ) (rows : Range) where
     pub parts_ended : rows.count ≤ i → Checks (of_parts literals room rows) coercion.Value
     parts_ended l = rw (parts_opened z) (going_ended (of_part literals (room - 1)) rows.first rows.count g l)
 
-pub ruleset parting = (part-list, part-object, part-variable, part-plain, list_within, object_within, parts_full, parts_begin, going_again, parts_stopped, parts_ended, shut)
+pub ruleset parting = (part_list, part_object, part_variable, part_plain, list_within, object_within, parts_full, parts_begin, going_again, parts_stopped, parts_ended, shut)

@@ -19,7 +19,7 @@ use Rattle.rows.specs.declared.schema.TypeRef.TheVariants as ref
 use Rattle.rows.specs.declared.schema.TypeKind.{TypeKind}
 use Rattle.rows.specs.declared.schema.TypeKind.TheVariants as kind
 use Rattle.rows.specs.declared.schema.TypeDef.{TypeDef}
-use Rattle.rows.specs.contracts.schema.TypeKind.{the_type as kind-type}
+use Rattle.rows.specs.contracts.schema.TypeKind.{the_type as kind_type}
 use Rattle.codes.specs.declared.errors.FieldError.TheVariants as error
 use Rattle.graphql.specs.Run.{Path, when}
 use Rattle.codes.specs.Errors.{place_of}
@@ -27,7 +27,7 @@ use Rattle.graphql.specs.Json.{null}
 use Rattle.graphql.specs.Lookup.{rows_in, non_null, type_named}
 use Rattle.graphql.specs.Values.{literal_form}
 use Rattle.graphql.specs.Coerce.{is_input_object, unknown_key, known_object, input_object, coerce_named, coerce_shape, coerce_literal, coerce_argument_value}
-use Rattle.lookup.specs.Found.{row_of, is_found}
+use Rattle.lookup.specs.Found.{row_of, is_found_lem}
 use Rattle.input_coercion.specs.Ends.{literal_fails, Ends, Checks}
 use Rattle.input_coercion.specs.Coerced.{FormAt, Listable, ItemsAt, Coercible, inside, of_part, of_value, of_variable, of_items, of_fields, of_object, of_named, of_shape, ChecksInner}
 use Rattle.input_coercion.specs.declared.check.Coercion.{Coercion}
@@ -36,11 +36,11 @@ use Rattle.input_coercion.specs.declared.check.Shape.{Shape}
 use Rattle.input_coercion.specs.declared.check.Shape.TheVariants as shape
 use Rattle.input_coercion.specs.declared.check.Form.{Form}
 use Rattle.input_coercion.specs.declared.check.Form.TheVariants as form
-use Rattle.input_coercion.specs.contracts.check.Shape.{the_type as shape-type}
+use Rattle.input_coercion.specs.contracts.check.Shape.{the_type as shape_type}
 use Rattle.input_coercion.proofs.Ends.{value_pure, fails}
 use Rattle.input_coercion.proofs.Leaves.{not_found, is_found_lem}
 use Rattle.input_coercion.proofs.Going.{going_begin, going_again}
-use Rattle.input_coercion.proofs.Fields.{items_full, items-stopped, items_ended, field_given, field_default_lem, field-missing, field_absent, fields_full, fields_begin, fields-stopped, fields-ended}
+use Rattle.input_coercion.proofs.Fields.{items_full, items_stopped, items_ended, field_given, field_default_lem, field_missing, field_absent, fields_full, fields_begin, fields_stopped, fields_ended}
 
 -- ---- what a shape shows
 
@@ -64,11 +64,11 @@ module _ {types nodes literals variables : List ℕ} (w : Coercible types nodes 
 
 -- ---- whether a key is unknown
 
-all_known : (o : Option ℕ) → false ≡ is_found o → o ≡ none
+all_known : (o : Option ℕ) → false ≡ is_found_lem o → o ≡ none
 all_known none h = refl
 all_known (some key) h = absurd (let z : ◌≡◌ {A = ℕ} 0 1 = cc in omega arith)
 
-one_unknown : (o : Option ℕ) → true ≡ is_found o → (key : ℕ) × (o ≡ some key)
+one_unknown : (o : Option ℕ) → true ≡ is_found_lem o → (key : ℕ) × (o ≡ some key)
 one_unknown none h = absurd (let z : ◌≡◌ {A = ℕ} 0 1 = cc in omega arith)
 one_unknown (some key) h = (key, refl)
 
@@ -77,7 +77,7 @@ one_unknown (some key) h = (key, refl)
 abbrev pub other_kinds : List ℕ
 other_kinds = 0 ∷ 1 ∷ 2 ∷ 3 ∷ 4 ∷ 6 ∷ []
 
-pub other_kind : (k : TypeKind) → Among other_kinds (tag_of kind-type k) → is_input_object k ≡ false
+pub other_kind : (k : TypeKind) → Among other_kinds (tag_of kind_type k) → is_input_object k ≡ false
 unfolding is_input_object
 other_kind kind.Scalar o = refl
 other_kind kind.Enum o = refl
@@ -94,18 +94,18 @@ module _ (refs types fields nodes literals variables : List ℕ) (room : ℕ) wh
   -- ---- an input object
 
   module _ (type row : ℕ) (s : Shape) where
-    pub object_other : {r : Coercion} → Among unkeyed (tag_of shape-type s) → r ≡ literal_fails literals error.CannotCoerce row
+    pub object_other : {r : Coercion} → Among unkeyed (tag_of shape_type s) → r ≡ literal_fails literals error.CannotCoerce row
         → Checks (of_object refs types fields nodes literals variables room type row s) r
     unfolding of_object input_object place_of
     object_other o f = record { ends = λ pool names p. rw f (go pool names p s o) }
       where
-        go : (pool names : List ℕ) (p : Path) (s : Shape) → Among unkeyed (tag_of shape-type s)
+        go : (pool names : List ℕ) (p : Path) (s : Shape) → Among unkeyed (tag_of shape_type s)
             → Ends p (of_object refs types fields nodes literals variables room type row s pool names p) (literal_fails literals error.CannotCoerce row)
         go pool names p shape.Single o = fails literals error.CannotCoerce row p refl
         go pool names p (shape.Listed rows) o = fails literals error.CannotCoerce row p refl
         go pool names p (shape.Keyed rows) o = absurd (miss unkeyed 2 tt (opened o))
 
-    module _ {given : Range} {b : Bool} (h : s ≡ shape.Keyed given) (e : b ≡ is_found (unknown_key types fields literals type (rows_in given))) where
+    module _ {given : Range} {b : Bool} (h : s ≡ shape.Keyed given) (e : b ≡ is_found_lem (unknown_key types fields literals type (rows_in given))) where
       pub object_unknown : {r : Coercion} → b ≡ true → r ≡ literal_fails literals error.UnknownKey row
           → Checks (of_object refs types fields nodes literals variables room type row s) r
       unfolding of_object input_object known_object place_of
@@ -130,15 +130,15 @@ module _ (refs types fields nodes literals variables : List ℕ) (room : ℕ) wh
     named_undefined h f = record { ends = λ pool names p. rw (not_found (type_named types name) e h, f) (fails literals error.UndefinedInputType row p refl) }
 
     module _ {type : ℕ} {def : TypeDef} (h : found ≡ Row type) (d : def ≡ type_at types type) where
-      pub named_other : Among other_kinds (tag_of kind-type def.kind) → Checks (of_part literals room row) r
+      pub named_other : Among other_kinds (tag_of kind_type def.kind) → Checks (of_part literals room row) r
           → Checks (of_named refs types fields nodes literals variables room row s name) r
       unfolding of_named coerce_named when of_part
       named_other o q = record { ends = λ pool names p. rw (is_found_lem (type_named types name) e h, ← d, other_kind def.kind o) (q.ends pool names p) }
 
-      pub named-object : def.kind ≡ kind.InputObject → Checks (of_object refs types fields nodes literals variables room type row s) r
+      pub named_object : def.kind ≡ kind.InputObject → Checks (of_object refs types fields nodes literals variables room type row s) r
           → Checks (of_named refs types fields nodes literals variables room row s name) r
       unfolding of_named coerce_named when is_input_object of_object
-      named-object k q = record { ends = λ pool names p. rw (is_found_lem (type_named types name) e h, ← d, k) (q.ends pool names p) }
+      named_object k q = record { ends = λ pool names p. rw (is_found_lem (type_named types name) e h, ← d, k) (q.ends pool names p) }
 
   -- ---- any type
 
@@ -175,10 +175,10 @@ module _ (refs types fields nodes literals variables : List ℕ) (room : ℕ) wh
 
   module _ (ty row : ℕ) {f : Form} (e : FormAt literals row f) where
     module _ {b : Bool} (h : f ≡ form.Null) (g : b ≡ non_null refs ty) where
-      pub value-inner-null : {r : Coercion} → b ≡ true → r ≡ literal_fails literals error.InnerNull row
+      pub value_inner_null : {r : Coercion} → b ≡ true → r ≡ literal_fails literals error.InnerNull row
           → Checks (of_value refs types fields nodes literals variables room ty row) r
       unfolding of_value coerce_literal when place_of
-      value-inner-null t k = record {
+      value_inner_null t k = record {
         ends = λ pool names p. rw (by_form ty row pool names p, e.is, h, ← g, t, k) (fails literals error.InnerNull row p refl);
       }
 
@@ -198,16 +198,16 @@ module _ (refs types fields nodes literals variables : List ℕ) (room : ℕ) wh
 
 -- ---- what each function goes by
 
-pub ruleset valuing = (form_shaped, value-inner-null, value_null, value_variable, value_shaped)
+pub ruleset valuing = (form_shaped, value_inner_null, value_null, value_variable, value_shaped)
 
 pub ruleset shaping = (listable, shape_named, shape_items, shape_unknown)
 
-pub ruleset naming = (named_undefined, named_other, named-object, shut)
+pub ruleset naming = (named_undefined, named_other, named_object, shut)
 
 pub ruleset objecting = (keyed_within, few_fields, few_declared, object_other, object_unknown, object_known, shut)
 
-pub ruleset itemizing = (items_full, going_begin, going_again, items-stopped, items_ended, shut)
+pub ruleset itemizing = (items_full, going_begin, going_again, items_stopped, items_ended, shut)
 
-pub ruleset fielding = (field_given, field_default_lem, field-missing, field_absent)
+pub ruleset fielding = (field_given, field_default_lem, field_missing, field_absent)
 
-pub ruleset opening = (fields_full, fields_begin, going_again, fields-stopped, fields-ended, shut)
+pub ruleset opening = (fields_full, fields_begin, going_again, fields_stopped, fields_ended, shut)

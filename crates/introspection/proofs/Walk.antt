@@ -124,17 +124,17 @@ module _ (sets selections fragments : List ℕ) (room : ℕ) {marks : List ℕ} 
     spread_undefined h = rw (found_none (fragment_named fragments name) e h) (level fragments (λ rises. defined.depth sofar rises) sofar (λ rises m. refl))
 
     module _ {row : ℕ} (h : found ≡ Row row) where
-      pub again-deep : (get_or marks row 0 ≡ 0 → ⊥) → sofar < 3 → 3 - sofar < get_or marks row 0 - 1
+      pub again_deep : (get_or marks row 0 ≡ 0 → ⊥) → sofar < 3 → 3 - sofar < get_or marks row 0 - 1
           → ChecksSpread sets selections fragments marks room place name sofar (TooDeep place) marks
       unfolding check_spread check_fragment met_again
-      again-deep z l o =
+      again_deep z l o =
           refused fragments {marks = marks} (check_spread sets selections fragments (check_set sets selections fragments room) sofar place name (fragment_named fragments name)) place
           (λ rises m. rw (found_some (fragment_named fragments name) e h, met fragments m name row (found_some (fragment_named fragments name) e h) z, lt-ltb 3 (sofar + (get_or marks row 0 - 1)) (omega arith)))
 
-      pub again-level : (get_or marks row 0 ≡ 0 → ⊥) → sofar < 3 → get_or marks row 0 - 1 ≤ 3 - sofar
+      pub again_level : (get_or marks row 0 ≡ 0 → ⊥) → sofar < 3 → get_or marks row 0 - 1 ≤ 3 - sofar
           → ChecksSpread sets selections fragments marks room place name sofar (Depth sofar) marks
       unfolding check_spread check_fragment met_again
-      again-level z l o =
+      again_level z l o =
           level fragments {marks = marks} (check_spread sets selections fragments (check_set sets selections fragments room) sofar place name (fragment_named fragments name)) sofar
           (λ rises m. rw (found_some (fragment_named fragments name) e h, met fragments m name row (found_some (fragment_named fragments name) e h) z, le-ltb 3 (sofar + (get_or marks row 0 - 1)) (omega arith)))
 
@@ -146,16 +146,16 @@ module _ (sets selections fragments : List ℕ) (room : ℕ) {marks : List ℕ} 
         unfolding check_spread check_fragment
         opened rises m = rw (found_some (fragment_named fragments name) e h, not_met fragments m name row (found_some (fragment_named fragments name) e h) z, f)
 
-        pub spread-stopped : Stopped r → ChecksSpread sets selections fragments marks room place name sofar r marks'
-        spread-stopped s = record {
+        pub spread_stopped : Stopped r → ChecksSpread sets selections fragments marks room place name sofar r marks'
+        spread_stopped s = record {
           kept = q.kept;
           checks = λ rises m. rw (opened rises m) (stopped fragments (check_set sets selections fragments room fragment.set sofar rises) (remembered sets selections fragments (check_set sets selections fragments room) sofar name) s (q.checks rises m));
         }
 
-        pub spread-met : {d rise : ℕ} → Walkable sets fragments marks sofar → r ≡ Depth d → rise ≡ d - sofar
+        pub spread_met : {d rise : ℕ} → Walkable sets fragments marks sofar → r ≡ Depth d → rise ≡ d - sofar
             → ChecksSpread sets selections fragments marks room place name sofar (Depth d) (set marks' row (rise + 1))
         unfolding and_then remembered
-        spread-met {d = d'} {rise = rise'} w s t = record {
+        spread_met {d = d'} {rise = rise'} w s t = record {
           kept = length-set marks' row (rise' + 1) ∙ q.kept;
           checks = λ rises m.
               let c = came fragments (check_set sets selections fragments room fragment.set sofar rises) (rw s at (q.checks rises m)) in

@@ -60,11 +60,11 @@ module _ (pool names refs types fields nodes literals variables : List ℕ) (ty 
     is_list inner rows q = put_together most_open _ _ (λ js. refl) q
 
     module _ (s : Shape) (f : literal_form (literal_at literals row) ≡ shaped s) where
-      of-named : (name : ℕ) (nullable : Bool) → type_ref_at refs ty ≡ ref.Named name nullable → (o : Option ℕ) → type_named types name ≡ o
+      of_named : (name : ℕ) (nullable : Bool) → type_ref_at refs ty ≡ ref.Named name nullable → (o : Option ℕ) → type_named types name ≡ o
           → Comes (coerce_named pool names refs types fields nodes literals variables most_open deeper p row s o) j → Became
       unfolding coerce_named when is_container named_container
-      of-named name nullable e none i q = absurd (comes_failed literals error.UndefinedInputType row p q)
-      of-named name nullable e (some type) i q = go (is_input_object (type_at types type).kind) refl q
+      of_named name nullable e none i q = absurd (comes_failed literals error.UndefinedInputType row p q)
+      of_named name nullable e (some type) i q = go (is_input_object (type_at types type).kind) refl q
         where
           go : (b : Bool) → is_input_object (type_at types type).kind ≡ b
               → Comes (when b (input_object pool names refs types fields nodes literals variables most_open deeper p type row s)
@@ -72,12 +72,12 @@ module _ (pool names refs types fields nodes literals variables : List ℕ) (ty 
           go true k q = as_container s f (rw (e, i, k)) (is_object_lem type s q)
           go false k q = as_parts s f (rw (e, i, k)) q
 
-      of-type : (t : TypeRef) → type_ref_at refs ty ≡ t
+      of_type : (t : TypeRef) → type_ref_at refs ty ≡ t
           → Comes (coerce_shape pool names refs types fields nodes literals variables most_open deeper p row s t) j → Became
       unfolding coerce_shape is_container
-      of-type (ref.Named name nullable) e q = of-named name nullable e (type_named types name) refl q
-      of-type (ref.ListOf inner nullable) e q = as_container s f (rw e) (is_list inner _ q)
-      of-type ref.Unknown e q = absurd (comes_failed literals error.UndefinedInputType row p q)
+      of_type (ref.Named name nullable) e q = of_named name nullable e (type_named types name) refl q
+      of_type (ref.ListOf inner nullable) e q = as_container s f (rw e) (is_list inner _ q)
+      of_type ref.Unknown e q = absurd (comes_failed literals error.UndefinedInputType row p q)
 
   pub became : Echoed pool names refs types fields nodes literals variables ty row j → Became
   unfolding of_value coerce_literal
@@ -90,4 +90,4 @@ module _ (pool names refs types fields nodes literals variables : List ℕ) (ty 
       go null_given h c =
           as_null h (comes_pure (not_failed (non_null refs ty) literals error.InnerNull row q.path (pure null) c))
       go (variable name) h c = absurd (q.shaped name h)
-      go (shaped s) h c = of-type q.path s h (type_ref_at refs ty) refl c
+      go (shaped s) h c = of_type q.path s h (type_ref_at refs ty) refl c

@@ -14,8 +14,8 @@ use Rattle.rows.specs.declared.schema.TypeRef.{TypeRef}
 use Rattle.rows.specs.declared.schema.TypeRef.TheVariants as ref
 use Rattle.rows.specs.declared.schema.TypeKind.TheVariants as kind
 use Rattle.rows.specs.declared.schema.TypeDef.{TypeDef}
-use Rattle.rows.specs.contracts.schema.TypeRef.{the_type as ref-type}
-use Rattle.rows.specs.contracts.schema.TypeKind.{the_type as kind-type}
+use Rattle.rows.specs.contracts.schema.TypeRef.{the_type as ref_type}
+use Rattle.rows.specs.contracts.schema.TypeKind.{the_type as kind_type}
 use Rattle.codes.specs.Outcome.{most_open}
 use Rattle.graphql.specs.Json.{Json, sort_of}
 use Rattle.graphql.specs.Lookup.{type_named}
@@ -24,7 +24,7 @@ use Rattle.lookup.specs.Found.{row_of}
 use Rattle.input_coercion.specs.Coerced.{form_meant, FormAt}
 use Rattle.input_coercion.specs.declared.check.Form.{Form}
 use Rattle.input_coercion.specs.declared.check.Form.TheVariants as form
-use Rattle.input_coercion.specs.contracts.check.Form.{the_type as form_type_lem}
+use Rattle.input_coercion.specs.contracts.check.Form.{the_type as form_type}
 use Rattle.input_coercion.proofs.Leaves.{not_found, is_found_lem}
 use Rattle.input_coercion.proofs.Walk.{other_kinds, other_kind}
 use Rattle.values.specs.Plain.{said, node_sort}
@@ -44,11 +44,11 @@ abbrev unnamed : List ℕ
 unnamed = 1 ∷ 2 ∷ []
 
 module _ (refs types : List ℕ) (ty : ℕ) {t : TypeRef} (e : t ≡ type_ref_at refs ty) where
-  pub container_unnamed : Among unnamed (tag_of ref-type t) → true ≡ is_container types (type_ref_at refs ty)
+  pub container_unnamed : Among unnamed (tag_of ref_type t) → true ≡ is_container types (type_ref_at refs ty)
   unfolding is_container
   container_unnamed o = rw (← e) (go t o)
     where
-      go : (t : TypeRef) → Among unnamed (tag_of ref-type t) → true ≡ is_container types t
+      go : (t : TypeRef) → Among unnamed (tag_of ref_type t) → true ≡ is_container types t
       go (ref.Named name nullable) o = absurd (miss unnamed 0 tt (opened o))
       go (ref.ListOf inner nullable) o = refl
       go ref.Unknown o = refl
@@ -59,15 +59,15 @@ module _ (refs types : List ℕ) (ty : ℕ) {t : TypeRef} (e : t ≡ type_ref_at
     container_undefined n = rw (← e, h, not_found (type_named types name) f n)
 
     module _ {type : ℕ} {def : TypeDef} (n : found ≡ Row type) (d : def ≡ type_at types type) where
-      pub container-other : Among other_kinds (tag_of kind-type def.kind) → false ≡ is_container types (type_ref_at refs ty)
+      pub container_other : Among other_kinds (tag_of kind_type def.kind) → false ≡ is_container types (type_ref_at refs ty)
       unfolding is_container named_container
-      container-other o = rw (← e, h, is_found_lem (type_named types name) f n, ← d, other_kind def.kind o)
+      container_other o = rw (← e, h, is_found_lem (type_named types name) f n, ← d, other_kind def.kind o)
 
-      pub container-object : def.kind ≡ kind.InputObject → true ≡ is_container types (type_ref_at refs ty)
+      pub container_object : def.kind ≡ kind.InputObject → true ≡ is_container types (type_ref_at refs ty)
       unfolding is_container named_container is_input_object
-      container-object k = rw (← e, h, is_found_lem (type_named types name) f n, ← d, k)
+      container_object k = rw (← e, h, is_found_lem (type_named types name) f n, ← d, k)
 
-pub ruleset containing = (container_unnamed, container_undefined, container-other, container-object, shut)
+pub ruleset containing = (container_unnamed, container_undefined, container_other, container_object, shut)
 
 -- ---- the sort of a literal at a type
 
@@ -79,12 +79,12 @@ module _ (refs types literals : List ℕ) (ty row : ℕ) {f : Form} (e : FormAt 
   unfolding coerced_sort sort_of_form
   sort_null h = rw (e.is, h)
 
-  module _ (o : Among no_null (tag_of form_type_lem f)) {b : Bool} (k : b ≡ is_container types (type_ref_at refs ty)) where
+  module _ (o : Among no_null (tag_of form_type f)) {b : Bool} (k : b ≡ is_container types (type_ref_at refs ty)) where
     pub sort_container : b ≡ true → sort.Container ≡ said (coerced_sort refs types literals ty row)
     unfolding coerced_sort sort_of_form
     sort_container h = rw (e.is, ← k, h) (go f o)
       where
-        go : (f : Form) → Among no_null (tag_of form_type_lem f)
+        go : (f : Form) → Among no_null (tag_of form_type f)
             → sort.Container ≡ said (sort_of_form (form_meant f) true (literal_sort (literal_at literals row)))
         go form.Null o = absurd (miss no_null 0 tt (opened o))
         go (form.Variable name) o = refl
@@ -94,7 +94,7 @@ module _ (refs types literals : List ℕ) (ty row : ℕ) {f : Form} (e : FormAt 
     unfolding coerced_sort sort_of_form
     sort_own {r} h i = rw (e.is, ← k, h) (go f o)
       where
-        go : (f : Form) → Among no_null (tag_of form_type_lem f) → r ≡ said (sort_of_form (form_meant f) false (literal_sort (literal_at literals row)))
+        go : (f : Form) → Among no_null (tag_of form_type f) → r ≡ said (sort_of_form (form_meant f) false (literal_sort (literal_at literals row)))
         go form.Null o = absurd (miss no_null 0 tt (opened o))
         go (form.Variable name) o = i
         go (form.Shaped s) o = i

@@ -16,8 +16,8 @@ use Rattle.rows.specs.declared.json.Node.{Node}
 use Rattle.rows.specs.declared.json.Node.TheVariants as node
 use Rattle.rows.specs.declared.json.Literal.{Literal}
 use Rattle.rows.specs.declared.json.Literal.TheVariants as literal
-use Rattle.rows.specs.contracts.json.Node.{the_type as node-type}
-use Rattle.rows.specs.contracts.json.Literal.{the_type as literal-type}
+use Rattle.rows.specs.contracts.json.Node.{the_type as node_type}
+use Rattle.rows.specs.contracts.json.Literal.{the_type as literal_type}
 use Rattle.codes.specs.Outcome.{most_open, variable_in_literal}
 use Rattle.graphql.specs.Run.{M, pure}
 use Rattle.graphql.specs.Json.{Json, null, bool, natural, negative, float, string, array, object, sort_of, string_of, a_container}
@@ -44,11 +44,11 @@ module _ (pool nodes : List ℕ) (row : ℕ) {n : Node} (e : n ≡ node_at nodes
   unfolding bytes_of string_of plain_value
   node_string h b = rw (← e, h, b)
 
-  pub node_other : Among other_nodes (tag_of node-type n) → [] ≡ bytes_of (string_of (plain_value pool (node_at nodes row)))
+  pub node_other : Among other_nodes (tag_of node_type n) → [] ≡ bytes_of (string_of (plain_value pool (node_at nodes row)))
   unfolding bytes_of string_of plain_value
   node_other o = rw (← e) (go n o)
     where
-      go : (n : Node) → Among other_nodes (tag_of node-type n) → [] ≡ bytes_of (string_of (plain_value pool n))
+      go : (n : Node) → Among other_nodes (tag_of node_type n) → [] ≡ bytes_of (string_of (plain_value pool n))
       go node.Null o = refl
       go node.False o = refl
       go node.True o = refl
@@ -74,11 +74,11 @@ module _ (pool names literals : List ℕ) (row : ℕ) {l : Literal} (e : l ≡ l
   unfolding bytes_of string_of plain_literal
   literal_enum h b = rw (← e, h, b)
 
-  pub literal_other : Among other_literals (tag_of literal-type l) → [] ≡ bytes_of (string_of (plain_literal pool names (literal_at literals row)))
+  pub literal_other : Among other_literals (tag_of literal_type l) → [] ≡ bytes_of (string_of (plain_literal pool names (literal_at literals row)))
   unfolding bytes_of string_of plain_literal
   literal_other o = rw (← e) (go l o)
     where
-      go : (l : Literal) → Among other_literals (tag_of literal-type l) → [] ≡ bytes_of (string_of (plain_literal pool names l))
+      go : (l : Literal) → Among other_literals (tag_of literal_type l) → [] ≡ bytes_of (string_of (plain_literal pool names l))
       go literal.Null o = refl
       go literal.False o = refl
       go literal.True o = refl

@@ -183,9 +183,9 @@ pub add_begin : {spans : List ℕ} {base group start at : ℕ} → base + group 
 unfolding together
 add_begin room h = record { room = room; within = omega arith; low = omega arith; sums = omega arith }
 
-pub add-again : {spans : List ℕ} {base group start at sum next i : ℕ} → Adding spans base group start at sum i → i < group
+pub add_again : {spans : List ℕ} {base group start at sum next i : ℕ} → Adding spans base group start at sum i → i < group
     → next ≡ min (sum + (get_or spans (base + i) 0 - 1)) at → Adding spans base group start at next (i + 1)
-add-again {spans} {base} {group} {start} {at} {sum} {next} {i} g h e = record {
+add_again {spans} {base} {group} {start} {at} {sum} {next} {i} g h e = record {
   room = g.room;
   within = omega arith;
   low = omega arith;
@@ -194,9 +194,9 @@ add-again {spans} {base} {group} {start} {at} {sum} {next} {i} g h e = record {
       (omega (arith, e, g.sums));
 }
 
-pub add-end : {spans : List ℕ} {base group start at sum i : ℕ} → Adding spans base group start at sum i → group ≤ i
+pub add_end : {spans : List ℕ} {base group start at sum i : ℕ} → Adding spans base group start at sum i → group ≤ i
     → sum ≡ entry_start (spans_at spans base group) start at
-add-end {spans} {base} {group} {start} {at} {sum} {i} g h =
+add_end {spans} {base} {group} {start} {at} {sum} {i} g h =
     let e : i ≡ group = omega (arith, g.within) in
     g.sums ∙ ap (λ (k : ℕ). entry_start (spans_at spans base k) start at) e
 

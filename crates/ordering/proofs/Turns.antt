@@ -26,7 +26,7 @@ use Rattle.walking.specs.Settled.{passed_list}
 use Rattle.walking.proofs.Ends.{placed_of}
 use Rattle.walking.proofs.Filling.{slot, pick_at, pick_none}
 use Rattle.walking.proofs.Slotted.{keyed, slotted}
-use Rattle.walking.proofs.Groups.{whole, Setting, Turned, setting_begin, setting_slot, setting-lost, setting-again, setting-behind, setting_ended}
+use Rattle.walking.proofs.Groups.{whole, Setting, Turned, setting_begin, setting_slot, setting_lost, setting_again, setting_behind, setting_ended}
 use Rattle.ordering.specs.Spans.{spans_at, opens, together, Clears, Tally, chosen, next_group, past_choice, span_of, Puts}
 use Rattle.ordering.proofs.SpanLaws.{spans_length, chosen_below, clears_words, words_same, words_set, low_after, low_bound, together_split, together_low}
 use Rattle.ordering.proofs.Spanned.{Spanned, spanned_none, spanned_slot, spanned_empties, spanned_first, spanned_all, spanned_set, spanned_less}
@@ -107,8 +107,8 @@ module _ {G : Type 0} (run : G → M Val) (key : G → List ℕ) (z : G) (cs : C
 
     module _ (lt : taken < groups) where
       -- A group may be picked.
-      pub turning-tally : Tally spans base groups low taken
-      turning-tally = record {
+      pub turning_tally : Tally spans base groups low taken
+      turning_tally = record {
         room = omega (arith, h.few, h.room);
         left = lt;
         below = h.below;
@@ -128,20 +128,20 @@ module _ {G : Type 0} (run : G → M Val) (key : G → List ℕ) (z : G) (cs : C
       abbrev nth : ℕ
       nth = chosen cs choice (suc left)
 
-      nth-below : nth < suc left
-      nth-below = chosen_below cs choice (omega arith)
+      nth_below : nth < suc left
+      nth_below = chosen_below cs choice (omega arith)
 
       module _ {i : ℕ} (n : i ≡ next_group spans cs base groups taken choice) where
-        is-slot : i ≡ slot h.slots nth
-        is-slot = rw one_left at n ∙ sym (spanned_slot key h.spanned nth)
+        is_slot : i ≡ slot h.slots nth
+        is_slot = rw one_left at n ∙ sym (spanned_slot key h.spanned nth)
 
         -- It is there.
-        pub turning-there : i < groups
-        turning-there = omega (arith, is-slot, (setting_slot run key z cs gs p text₀ errors₀ s held nth-below).0, h.setting.size, h.counted)
+        pub turning_there : i < groups
+        turning_there = omega (arith, is_slot, (setting_slot run key z cs gs p text₀ errors₀ s held nth_below).0, h.setting.size, h.counted)
 
         -- Its span is there, also after a call.
-        pub turning-room : (spans2 : List ℕ) → length spans2 ≡ length spans → base + i < length spans2
-        turning-room spans2 sized = omega (arith, turning-there, h.few, h.room)
+        pub turning_room : (spans2 : List ℕ) → length spans2 ≡ length spans → base + i < length spans2
+        turning_room spans2 sized = omega (arith, turning_there, h.few, h.room)
 
         module _ {c : ℕ} (e : c ≡ past_choice cs choice) {d : Done} {text2 errors2 : List ℕ} {top : ℕ}
             (q : Gives (as_entry (keyed (key (get_or gs i z)))) cs text errors (record { at = at; errs = errs; choice = c; top = top })
@@ -151,13 +151,13 @@ module _ {G : Type 0} (run : G → M Val) (key : G → List ℕ) (z : G) (cs : C
 
           entry : Gives (as_entry (keyed (key (get_or gs (slot h.slots nth) z)))) cs text errors
               (record { at = at; errs = errs; choice = c; top = top }) (run (get_or gs (slot h.slots nth) z) (drop c cs)) d text2 errors2
-          entry = rw is-slot at q
+          entry = rw is_slot at q
 
           -- The set is given up.
-          pub turning-lost : {f : Failure} → d.what ≡ Fails f
+          pub turning_lost : {f : Failure} → d.what ≡ Fails f
               → Gives as_data cs text₀ errors₀ s (whole run key z cs gs p text₀ errors₀ s)
               (passed_list (record { what = d.what; state = moved_to d.state s.at })) text2 errors2
-          turning-lost f = setting-lost run key z cs gs p text₀ errors₀ s held nth-below picked entry f
+          turning_lost f = setting_lost run key z cs gs p text₀ errors₀ s held nth_below picked entry f
 
           module _ {k : Kind} (placed : d.what ≡ Placed k) where
             sure : d.state.at ≤ length text2 → at ≤ length text₀
@@ -167,8 +167,8 @@ module _ {G : Type 0} (run : G → M Val) (key : G → List ℕ) (z : G) (cs : C
             place : at ≤ length text₀ → length (slotted key gs (take (slot h.slots nth) h.slots)) ≡ together (spans_at spans base i)
             place u =
                 spanned_first key u h.spanned (slot h.slots nth)
-                ∙ ap (λ (k : ℕ). together (take k (spans_at spans base groups))) (sym is-slot)
-                ∙ ap together (take-take i groups (drop base spans) (omega (arith, turning-there)))
+                ∙ ap (λ (k : ℕ). together (take k (spans_at spans base groups))) (sym is_slot)
+                ∙ ap together (take-take i groups (drop base spans) (omega (arith, turning_there)))
 
             -- where it stands
             stands : at ≤ length text₀ → at ≡ s.at + together (spans_at spans base groups)
@@ -188,21 +188,21 @@ module _ {G : Type 0} (run : G → M Val) (key : G → List ℕ) (z : G) (cs : C
               -- The groups taken are those before it.
               stayed : low ≡ taken → i ≡ low → After
               stayed a b =
-                  let m = spans_length spans base groups turning-tally.room in
+                  let m = spans_length spans base groups turning_tally.room in
                   let t = take-take low groups (drop base spans) (omega (arith, h.below)) in
                   let r = together_low (spans_at spans base groups) low (omega (arith, h.below)) (rw t h.lowest) (omega (arith, open_words)) in
                   let v : together (spans_at spans base i) ≡ together (spans_at spans base groups) = rw b (sym (r ∙ ap together t)) in
                   rw (puts.turns.stays a b)
-                  (setting-behind run key z cs gs p text₀ errors₀ s held nth-below picked entry
+                  (setting_behind run key z cs gs p text₀ errors₀ s held nth_below picked entry
                   (λ l. omega (arith, stands (sure l), place (sure l), v)) placed)
 
               -- Else it is turned.
               moved : (low ≡ taken → i ≡ low → ⊥) → After
               moved other =
-                  let t = ap together (take-take i groups (drop base spans) (omega (arith, turning-there))) in
+                  let t = ap together (take-take i groups (drop base spans) (omega (arith, turning_there))) in
                   let r = together_split (spans_at spans base groups) i in
-                  let v = ap together (words_left i (omega (arith, turning-there))) in
-                  setting-again run key z cs gs p text₀ errors₀ s held nth-below picked entry (puts.turns.moves other)
+                  let v = ap together (words_left i (omega (arith, turning_there))) in
+                  setting_again run key z cs gs p text₀ errors₀ s held nth_below picked entry (puts.turns.moves other)
                   (λ l. omega (arith, stands (sure l), place (sure l), r, t, v)) placed
 
               turned : Dec (low ≡ taken) → Dec (i ≡ low) → After
@@ -213,11 +213,11 @@ module _ {G : Type 0} (run : G → M Val) (key : G → List ℕ) (z : G) (cs : C
               new : ℕ
               new = own (length text2) at d.state.at
 
-              words-new : spans_at spans3 base groups ≡ set (spans_at spans base groups) i (suc new)
+              words_new : spans_at spans3 base groups ≡ set (spans_at spans base groups) i (suc new)
               unfolding new
-              words-new =
+              words_new =
                   ap (λ (l : List ℕ). spans_at l base groups) puts.marked
-                  ∙ words_set spans2 base groups i _ turning-there
+                  ∙ words_set spans2 base groups i _ turning_there
                   ∙ rw (words_left groups (omega arith), own_span (length text2) at d.state.at)
 
               after : After → Turning spans3 text3 errors2 d.state.at d.state.errs d.state.choice base groups low' (taken + 1)
@@ -232,7 +232,7 @@ module _ {G : Type 0} (run : G → M Val) (key : G → List ℕ) (z : G) (cs : C
                     slots = set h.slots (slot h.slots nth) (some t.value);
                     setting = t.setting;
                     spanned =
-                        rw (words-new, is-slot)
+                        rw (words_new, is_slot)
                         (spanned_set key z (slot h.slots nth) t.value new (spanned_less key (λ u. sure (fits u)) h.spanned) (λ u.
                         omega (arith, own_fits (length text2) at d.state.at (fits u), t.entered.moved, t.entered.long, fits u)));
                     counted = h.counted;
@@ -241,10 +241,10 @@ module _ {G : Type 0} (run : G → M Val) (key : G → List ℕ) (z : G) (cs : C
                     below = b;
                     most = omega arith;
                     lowest =
-                        rw (← (take-take low' groups (drop base spans3) (omega arith)), words-new, puts.lowest)
+                        rw (← (take-take low' groups (drop base spans3) (omega arith)), words_new, puts.lowest)
                         (low_after (spans_at spans base groups) low i new (rw o h.lowest));
                   }
 
               -- The entry goes to its place: the next turn.
-              pub turning-again : Turning spans3 text3 errors2 d.state.at d.state.errs d.state.choice base groups low' (taken + 1)
-              turning-again = after (turned (ℕ_discrete low taken) (ℕ_discrete i low))
+              pub turning_again : Turning spans3 text3 errors2 d.state.at d.state.errs d.state.choice base groups low' (taken + 1)
+              turning_again = after (turned (ℕ_discrete low taken) (ℕ_discrete i low))

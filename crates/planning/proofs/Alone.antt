@@ -19,7 +19,7 @@ use Rattle.collecting.proofs.Shown.{shows_none}
 use Rattle.planning.specs.Plans.{word_at, plan_end, Standing, Puttable, PutPlan, Gathers, Storable, PlansAlone, operation_of}
 use Rattle.planning.specs.declared.plan.Planned.{Planned}
 use Rattle.planning.specs.declared.plan.Planned.TheVariants as planned
-use Rattle.planning.proofs.Found.{Gathering, group_gathering, stopped-far, stopped-many, puttable, put_right}
+use Rattle.planning.proofs.Found.{Gathering, group_gathering, stopped_far, stopped_many, puttable, put_right}
 
 nothing_stands : (Q : Request) (store : List ℕ) → Standing Q store 0
 nothing_stands Q store = record { there = omega arith; heads = λ plan l h. absurd (omega arith) }
@@ -32,7 +32,7 @@ module _ {refs types members fields sets selections fragments nodes variables st
   alone_far e = record {
     sized = refl;
     roomy = λ x. let z : ◌≡◌ {A = ℕ} 0 1 = cc in omega arith;
-    comes = λ Q t. stopped-far c t (nothing_stands Q store) e;
+    comes = λ Q t. stopped_far c t (nothing_stands Q store) e;
   }
 
   pub alone_many : r ≡ TooManyFields
@@ -40,7 +40,7 @@ module _ {refs types members fields sets selections fragments nodes variables st
   alone_many e = record {
     sized = refl;
     roomy = λ x. let z : ◌≡◌ {A = ℕ} 0 1 = cc in omega arith;
-    comes = λ Q t. stopped-many c t (nothing_stands Q store) e;
+    comes = λ Q t. stopped_many c t (nothing_stands Q store) e;
   }
 
   module _ {g : Gathered} (e : r ≡ On g) where
@@ -56,8 +56,8 @@ module _ {refs types members fields sets selections fragments nodes variables st
       low row l (yes x) = let z : row ≡ 0 = omega arith in rw (z, q.head) (omega arith)
       low row l (no x) = q.holds.low row (omega arith) l
 
-      pub alone-made : PlansAlone refs types members fields sets selections fragments nodes variables set object store s store'
-      alone-made = record {
+      pub alone_made : PlansAlone refs types members fields sets selections fragments nodes variables set object store s store'
+      alone_made = record {
         sized = q.kept.sized;
         roomy = λ x. let y = sym x ∙ q.is in let z : ◌≡◌ {A = ℕ} 0 1 = cc in omega arith;
         comes = λ Q t. rw q.is (record {
@@ -100,4 +100,4 @@ module _ {refs types members fields sets selections fragments nodes variables st
 
   pub apart_made : {g : Gathered} {s : Planned} {store' : List ℕ} → r ≡ On g
       → PutPlan refs types fields selections list g.count 0 0 0 0 object store s store' → Apart s store'
-  apart_made e q = alone-made w (group_gathering c) e q
+  apart_made e q = alone_made w (group_gathering c) e q

@@ -54,17 +54,17 @@ module _ (types : List ℕ) (name : ℕ) {found : Optional} (e : found ≡ row_o
     named_none h q = rw (found_none (type_named types name) e h) q
 
     module _ {row : ℕ} (h : found ≡ Row row) {def : TypeDef} (read : def ≡ type_at types row) where
-      pub named-scalar : def.kind ≡ kind.Scalar → r ≡ with' nullable 1 name → r ≡ expected_named types name nullable (type_named types name)
+      pub named_scalar : def.kind ≡ kind.Scalar → r ≡ with' nullable 1 name → r ≡ expected_named types name nullable (type_named types name)
       unfolding of_kind
-      named-scalar k q = rw (by_kind nullable h read, k) q
+      named_scalar k q = rw (by_kind nullable h read, k) q
 
-      pub named-enum : def.kind ≡ kind.Enum → r ≡ with' nullable 2 row → r ≡ expected_named types name nullable (type_named types name)
+      pub named_enum : def.kind ≡ kind.Enum → r ≡ with' nullable 2 row → r ≡ expected_named types name nullable (type_named types name)
       unfolding of_kind
-      named-enum k q = rw (by_kind nullable h read, k) q
+      named_enum k q = rw (by_kind nullable h read, k) q
 
-      pub named-object : def.kind ≡ kind.Object → r ≡ with' nullable 3 row → r ≡ expected_named types name nullable (type_named types name)
+      pub named_object : def.kind ≡ kind.Object → r ≡ with' nullable 3 row → r ≡ expected_named types name nullable (type_named types name)
       unfolding of_kind
-      named-object k q = rw (by_kind nullable h read, k) q
+      named_object k q = rw (by_kind nullable h read, k) q
 
       pub named_other : Among others (tag_of kinds.the_type def.kind) → r ≡ with' false 0 0 → r
           ≡ expected_named types name nullable (type_named types name)
@@ -80,7 +80,7 @@ module _ (types : List ℕ) (name : ℕ) {found : Optional} (e : found ≡ row_o
           go kind.InputObject o = refl
           go kind.Unknown o = refl
 
-pub ruleset naming = (type_small, named_none, named-scalar, named-enum, named-object, named_other)
+pub ruleset naming = (type_small, named_none, named_scalar, named_enum, named_object, named_other)
 
 module _ (refs types : List ℕ) (ty : ℕ) {t : TypeRef} (e : t ≡ type_ref_at refs ty) where
   module _ {inner : ℕ} {nullable : Bool} (h : t ≡ ref.ListOf inner nullable) where

@@ -60,13 +60,13 @@ module _ {refs types members fields sets selections fragments nodes variables : 
       (c : Gathering types members sets selections fragments nodes variables set object r list) where
     module _ {Q : Request} (t : Lent refs types members fields sets selections fragments nodes variables Q) {plans plans' : List ℕ} {top : ℕ}
         (a : Standing Q plans' top) where
-      pub stopped-far : r ≡ TooFar → Stopped Q (set Q) plans top object too_far plans'
-      stopped-far e =
+      pub stopped_far : r ≡ TooFar → Stopped Q (set Q) plans top object too_far plans'
+      stopped_far e =
           let d : Gathering types members sets selections fragments nodes variables set object TooFar list = rw e at c in
           record { standing = a; stops = stops object too_far t (d.same Q t.same_sets t.same_selections) d.comes }
 
-      pub stopped-many : r ≡ TooManyFields → Stopped Q (set Q) plans top object too_many_fields plans'
-      stopped-many e =
+      pub stopped_many : r ≡ TooManyFields → Stopped Q (set Q) plans top object too_many_fields plans'
+      stopped_many e =
           let d : Gathering types members sets selections fragments nodes variables set object TooManyFields list = rw e at c in
           record { standing = a; stops = stops object too_many_fields t (d.same Q t.same_sets t.same_selections) d.comes }
 
@@ -201,7 +201,7 @@ module _ {refs types members fields sets selections fragments nodes variables pl
   plans_stopped c e = record {
     kept = record { sized = refl; same = λ i l. refl };
     small_plan = λ made top' s. absurd (let z : ◌≡◌ {A = ℕ} 0 1 = cc in omega arith);
-    comes = λ Q t a. stopped-far (group_gathering c) t a e;
+    comes = λ Q t a. stopped_far (group_gathering c) t a e;
   }
 
   pub plans_many : {fresh list : List ℕ} {r : Collecting}
@@ -210,7 +210,7 @@ module _ {refs types members fields sets selections fragments nodes variables pl
   plans_many c e = record {
     kept = record { sized = refl; same = λ i l. refl };
     small_plan = λ made top' s. absurd (let z : ◌≡◌ {A = ℕ} 0 1 = cc in omega arith);
-    comes = λ Q t a. stopped-many (group_gathering c) t a e;
+    comes = λ Q t a. stopped_many (group_gathering c) t a e;
   }
 
   pub plans_made : {fresh list : List ℕ} {g : Gathered} {r : Collecting} {s : Planned} {plans' : List ℕ} → 8 * (top + 256) ≤ length plans

@@ -204,11 +204,11 @@ module _ {refs types fields selections list : List ℕ} {object first : ℕ} {st
     is = put_so_far
         ∙ (grouped_new key at (λ group. group_of selections (first_of plans (first + group)) (owned list owners group i)) 0 groups
         (λ j x y. other_key groups w j (omega arith))
-        ∙ sym (tabled_more after-put 0 groups ∙ rw (last, sym (tabled_same before-put after-put 0 groups (λ j x y. same j (omega arith))))));
+        ∙ sym (tabled_more after_put 0 groups ∙ rw (last, sym (tabled_same before_put after_put 0 groups (λ j x y. same j (omega arith))))));
   })
     where
-      first-same : (j : ℕ) → j < groups → first_of after (first + j) ≡ first_of plans (first + j)
-      first-same j k = p.kept.same (8 * (first + j) + 0) (omega arith)
+      first_same : (j : ℕ) → j < groups → first_of after (first + j) ≡ first_of plans (first + j)
+      first_same j k = p.kept.same (8 * (first + j) + 0) (omega arith)
 
       none_yet : owned list owners groups i ≡ []
       none_yet = picked_none (λ j. get_or list j 0) (λ j. get_or owners j 0) groups i (λ j k z. omega (arith, a.owns j k))
@@ -216,16 +216,16 @@ module _ {refs types fields selections list : List ℕ} {object first : ℕ} {st
       mine : owned list (set owners i groups) groups (suc i) ≡ at ∷ []
       mine = rw (owned_mine list owners i groups there, none_yet)
 
-      before-put : ℕ → Group
-      before-put = λ group. group_of selections (first_of plans (first + group)) (owned list owners group i)
+      before_put : ℕ → Group
+      before_put = λ group. group_of selections (first_of plans (first + group)) (owned list owners group i)
 
-      after-put : ℕ → Group
-      after-put = λ group. group_of selections (first_of after (first + group)) (owned list (set owners i groups) group (suc i))
+      after_put : ℕ → Group
+      after_put = λ group. group_of selections (first_of after (first + group)) (owned list (set owners i groups) group (suc i))
 
-      same : (j : ℕ) → j < groups → before-put j ≡ after-put j
-      same j k = rw (first-same j k, owned_other list owners i groups there j (λ z. omega arith))
+      same : (j : ℕ) → j < groups → before_put j ≡ after_put j
+      same j k = rw (first_same j k, owned_other list owners i groups there j (λ z. omega arith))
 
-      last : after-put (0 + groups) ≡ record { key = key; first = at; more = [] }
+      last : after_put (0 + groups) ≡ record { key = key; first = at; more = [] }
       last = let z : 0 + groups ≡ groups = omega arith in rw (z, mine, p.first)
 
       rows : (group : ℕ) → group < suc groups → Dec (groups ≤ group) → GroupRow refs types fields selections object after (first + group)
@@ -240,13 +240,13 @@ module _ {refs types fields selections list : List ℕ} {object first : ℕ} {st
           → owned list (set owners i groups) group (suc i) ≡ first_of after (first + group) ∷ rest (owned list (set owners i groups) group (suc i))
       members group k (yes x) = let z : group ≡ groups = omega arith in rw (z, mine, p.first)
       members group k (no x) =
-          rw (owned_other list owners i groups there group (λ z. omega arith), first-same group (omega arith)) (a.members group (omega arith))
+          rw (owned_other list owners i groups there group (λ z. omega arith), first_same group (omega arith)) (a.members group (omega arith))
 
       single : groups ≡ i → (group : ℕ) → group < suc groups → Dec (groups ≤ group)
           → owned list (set owners i groups) group (suc i) ≡ first_of after (first + group) ∷ []
       single s group k (yes x) = let z : group ≡ groups = omega arith in rw (z, mine, p.first)
       single s group k (no x) =
-          rw (owned_other list owners i groups there group (λ z. omega arith), first-same group (omega arith)) (a.single s group (omega arith))
+          rw (owned_other list owners i groups there group (λ z. omega arith), first_same group (omega arith)) (a.single s group (omega arith))
 
 -- ---- one field, as the code puts it
 
@@ -272,20 +272,20 @@ module _ {refs types fields selections list : List ℕ} {first : ℕ} (i : ℕ) 
       which : Which plans first groups (field_selection selections (get_or list i 0)).key to
       which = rw (← e) h
 
-      pub field-old : {object : ℕ} → to < groups → (before : List ℕ)
+      pub field_old : {object : ℕ} → to < groups → (before : List ℕ)
           → Grouping refs types fields selections list object first before plans owners groups i
           → Grouping refs types fields selections list object first before plans (set owners i to) groups (i + 1)
-      field-old l before a = grouping_old a (omega (arith, w.few)) w.listed to which l
+      field_old l before a = grouping_old a (omega (arith, w.few)) w.listed to which l
 
-      pub field-new : {object : ℕ} {plans' : List ℕ} → groups ≤ to
+      pub field_new : {object : ℕ} {plans' : List ℕ} → groups ≤ to
           → PutRow refs types fields object (first + groups) (get_or list i 0) field plans plans'
           → (before : List ℕ) → Grouping refs types fields selections list object first before plans owners groups i
           → Grouping refs types fields selections list object first before plans' (set owners i to) (groups + 1) (i + 1)
-      field-new l p before a =
+      field_new l p before a =
           let s : to ≡ groups = omega (arith, h.within) in
           rw s (grouping_new a (omega (arith, w.few)) w.listed (rw s at which) (w.field i (omega arith)) e p)
 
-pub ruleset putting = (types_referred, defined_few, word_fits, name_fits, key_fits, field-old, field-new)
+pub ruleset putting = (types_referred, defined_few, word_fits, name_fits, key_fits, field_old, field_new)
 
 -- ---- the loop over the fields
 

@@ -104,12 +104,12 @@ module _ (types members sets selections fragments nodes variables : List ℕ) (o
   unfolding selections_of
   child_set_lem row {field = f'} {range = range'} e n t q =
       let m : (field_selection selections row).set ≡ 0 → ⊥ = rw (← e) n in
-      let is : child_rows sets selections row ≡ rows_in range' = child-is f' range' e m t in
+      let is : child_rows sets selections row ≡ rows_in range' = child_is f' range' e m t in
       rw is q
     where
-      child-is : (field : FieldSelection) (range : Range) → field ≡ field_selection selections row → ((field_selection selections row).set ≡ 0 → ⊥)
+      child_is : (field : FieldSelection) (range : Range) → field ≡ field_selection selections row → ((field_selection selections row).set ≡ 0 → ⊥)
           → range ≡ set_at sets field.set → child_rows sets selections row ≡ rows_in range
-      child-is field range e m t = rw (ne_eqb (field_selection selections row).set 0 m, ← e, ← t)
+      child_is field range e m t = rw (ne_eqb (field_selection selections row).set 0 m, ← e, ← t)
 
   pub owned_not : (plans : List ℕ) (row group : ℕ) {owner : ℕ} → owner ≡ word_at plans row 1 → (owner ≡ group → ⊥)
       → CollectsOwned types members sets selections fragments nodes variables plans object row group list g (On g) list
@@ -188,22 +188,22 @@ module _ (types members sets selections fragments nodes variables plans : List �
     unfolding fields_of ◌>>=◌ onward
     merging_stopped o = record { kept = q.kept ∙ a.kept; comes = go r o (q.collects a.gone.collected a.gone.shows) }
       where
-        stop-on : (s k : _) (n d : ℕ)
+        stop_on : (s k : _) (n d : ℕ)
             → rows types members sets selections fragments nodes variables object (merged sets selections (those n)) none_yet k ≡ stop s []
             → rows types members sets selections fragments nodes variables object (merged sets selections (those (n + d))) none_yet k ≡ stop s []
-        stop-on s k n zero h = rw (add-zero n) h
-        stop-on s k n (suc d) h =
+        stop_on s k n zero h = rw (add-zero n) h
+        stop_on s k n (suc d) h =
             let e : n + suc d ≡ suc (n + d) = omega arith in
             rw (e, merge_picked sets selections (λ i. word_at plans (first + i) 0) (λ i. word_at plans (first + i) 1) group (n + d))
             (collect_append types members sets selections fragments nodes variables object (merged sets selections (those (n + d))) _ none_yet k
-            ∙ rw (stop-on s k n d h))
+            ∙ rw (stop_on s k n d h))
 
         all : (s : ℕ) → ((k : Choices) → rows types members sets selections fragments nodes variables object next a.gone.collected k ≡ stop s [])
             → (k : Choices) → rows types members sets selections fragments nodes variables object (merged sets selections
             (those fields)) none_yet k ≡ stop s []
         all s h k =
             let e : fields ≡ (i + 1) + (fields - (i + 1)) = omega arith in
-            rw e (stop-on s k (i + 1) (fields - (i + 1)) (onto k ∙ h k))
+            rw e (stop_on s k (i + 1) (fields - (i + 1)) (onto k ∙ h k))
 
         go : (r : Collecting) → Stopped r
             → Comes selections fragments (rows types members sets selections fragments nodes variables object next a.gone.collected) r list'

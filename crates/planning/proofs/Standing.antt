@@ -141,45 +141,45 @@ module _ {refs types fields selections list : List ℕ} {object at groups count 
         }
 
     module _ {put : List ℕ} (n : groups ≡ count → ⊥) (q : PutFields list owners (at + 1 + groups) count headed put) where
-      before-it : (i : ℕ) → i < 8 * (at + 1 + groups) → get_or put i 0 ≡ get_or headed i 0
-      before-it i l = q.kept.same i l
+      before_it : (i : ℕ) → i < 8 * (at + 1 + groups) → get_or put i 0 ≡ get_or headed i 0
+      before_it i l = q.kept.same i l
 
-      its-groups : group_count put at ≡ groups
-      its-groups = before-it (8 * at + 1) (omega arith) ∙ h.is_groups
+      its_groups : group_count put at ≡ groups
+      its_groups = before_it (8 * at + 1) (omega arith) ∙ h.is_groups
 
-      its-fields : field_count put at ≡ count
-      its-fields = before-it (8 * at + 2) (omega arith) ∙ h.is_fields
+      its_fields : field_count put at ≡ count
+      its_fields = before_it (8 * at + 2) (omega arith) ∙ h.is_fields
 
-      its-end : plan_end put at ≡ at + 1 + groups + count
+      its_end : plan_end put at ≡ at + 1 + groups + count
       unfolding field_rows
-      its-end = rw (its-groups, its-fields, ne_eqb groups count n)
+      its_end = rw (its_groups, its_fields, ne_eqb groups count n)
 
-      its-members : (group : ℕ) → group < groups → members_of put at group ≡ owned list owners group count
+      its_members : (group : ℕ) → group < groups → members_of put at group ≡ owned list owners group count
       unfolding members_of fields_of
-      its-members group l =
-          rw (its-groups, its-fields, ne_eqb groups count n)
+      its_members group l =
+          rw (its_groups, its_fields, ne_eqb groups count n)
           (picked_same (λ i. word_at put (at + 1 + groups + i) 0) (λ i. word_at put (at + 1 + groups + i) 1) group (λ i. get_or list i 0)
           (λ i. get_or owners i 0) count
           (λ i m. q.fields i m) (λ i m. q.owns i m))
 
-      pub plan-several : PutPlan refs types fields selections list count at by plan group object start (planned.At at (at + 1 + groups + count)) put
-      plan-several = record {
-        kept = record { sized = q.kept.sized ∙ kept_so.sized; same = λ i l. before-it i (omega arith) ∙ kept_so.same i l };
-        is = rw its-end;
-        ends = rw its-end (omega (arith, w.few, a.few, n));
-        head = before-it (8 * at + 0) (omega arith) ∙ h.is_by;
-        parent = before-it (8 * at + 3) (omega arith) ∙ h.is_plan;
-        of_group = before-it (8 * at + 4) (omega arith) ∙ h.is_group;
-        holds = stands put its-groups
-            (λ group l column b. before-it (8 * (at + 1 + group) + column) (omega arith) ∙ h.behind (8 * (at + 1 + group) + column) (omega arith))
-            its-members low';
+      pub plan_several : PutPlan refs types fields selections list count at by plan group object start (planned.At at (at + 1 + groups + count)) put
+      plan_several = record {
+        kept = record { sized = q.kept.sized ∙ kept_so.sized; same = λ i l. before_it i (omega arith) ∙ kept_so.same i l };
+        is = rw its_end;
+        ends = rw its_end (omega (arith, w.few, a.few, n));
+        head = before_it (8 * at + 0) (omega arith) ∙ h.is_by;
+        parent = before_it (8 * at + 3) (omega arith) ∙ h.is_plan;
+        of_group = before_it (8 * at + 4) (omega arith) ∙ h.is_group;
+        holds = stands put its_groups
+            (λ group l column b. before_it (8 * (at + 1 + group) + column) (omega arith) ∙ h.behind (8 * (at + 1 + group) + column) (omega arith))
+            its_members low';
       }
         where
           low' : (row : ℕ) → at + 1 + groups ≤ row → row < plan_end put at → word_at put row 0 < 32768
           low' row l k =
               let e : row ≡ at + 1 + groups + (row - (at + 1 + groups)) = omega arith in
-              let m : row - (at + 1 + groups) < count = omega (arith, its-end) in
+              let m : row - (at + 1 + groups) < count = omega (arith, its_end) in
               let t = (w.field (row - (at + 1 + groups)) m).there in
               rw (e, q.fields (row - (at + 1 + groups)) m) (omega arith)
 
-pub ruleset planning' = (plan_single, plan-several)
+pub ruleset planning' = (plan_single, plan_several)

@@ -52,15 +52,15 @@ module _ {path : Path} {last : ℕ} {asked : Asked} {pool names refs types membe
     })
 
     module _ {o : Opened} {r : Step} {text' errors' : List ℕ} (w : OpensBehind path last asked b start o text errors s r text' errors') where
-      pub completes-list : {rows : Range} → v ≡ value.List rows → OpensList refs ty rows o
+      pub completes_list : {rows : Range} → v ≡ value.List rows → OpensList refs ty rows o
           → CompletesBehind path last asked pool names refs types members fields nodes literals variables ty b start v text errors s r text' errors'
-      completes-list e h = rw e (record {
+      completes_list e h = rw e (record {
         steps = λ arguments sets selections given fragments answers g m at i. w.steps _ g m at (h.opens _ path asked g _ m refl i);
       })
 
-      pub completes-object : {name : ℕ} {rows : Range} → v ≡ value.Object name rows → OpensObject refs types members ty name rows o
+      pub completes_object : {name : ℕ} {rows : Range} → v ≡ value.Object name rows → OpensObject refs types members ty name rows o
           → CompletesBehind path last asked pool names refs types members fields nodes literals variables ty b start v text errors s r text' errors'
-      completes-object e h = rw e (record {
+      completes_object e h = rw e (record {
         steps = λ arguments sets selections given fragments answers g m at i.
             w.steps _ g m at
             (h.opens _ path asked g _ m pool names (record { of_pool = refl; of_names = refl; of_refs = refl; of_types = refl; of_members = refl }) i);

@@ -71,11 +71,11 @@ module _ {pool names refs types members fields arguments gives nodes literals va
   module _ (last : ℕ) (room : path.count < 32) (seg : segment_of last ≡ index at) where
     module _ {o : Resolved} (h : ResolvesRow arguments gives literals variables answers asked row o)
         (sound : Itemizable types arguments nodes literals variables answers asked) where
-      pub item-skip : {d : Done} → o ≡ resolving.Skip → d ≡ record { what = Placed LeftOut; state = s }
+      pub item_skip : {d : Done} → o ≡ resolving.Skip → d ≡ record { what = Placed LeftOut; state = s }
           → CompletesItem pool names refs types members fields arguments gives nodes literals variables answers path at asked inner row text errors s
           (step.Finished d) text errors
       unfolding complete_item note pure after record_of records_of words_of filter_map
-      item-skip e d = rw d (record {
+      item_skip e d = rw d (record {
         steps = λ sets selections fragments cs g args asks.
             let r = ((rw e at h).resolves pool names refs types members fields sets selections fragments nodes (sound.valued pool)).gave g args asks in (
               rw (item_is _ path at last inner row room seg g args, pure_bind_at _ _ (drop s.choice cs) (r (drop s.choice cs)))
@@ -84,12 +84,12 @@ module _ {pool names refs types members fields arguments gives nodes literals va
             );
       })
 
-      pub item-fails : {d : Done} {errors' : List ℕ} → o ≡ resolving.Error
+      pub item_fails : {d : Done} {errors' : List ℕ} → o ≡ resolving.Error
           → FailsWith PastList (error_at error.Resolver asked.place path last) errors s d errors'
           → CompletesItem pool names refs types members fields arguments gives nodes literals variables answers path at asked inner row text errors s
           (step.Finished d) text errors'
       unfolding complete_item error_of place_among place_of
-      item-fails e f = record {
+      item_fails e f = record {
         steps = λ sets selections fragments cs g args asks.
             let r = ((rw e at h).resolves pool names refs types members fields sets selections fragments nodes (sound.valued pool)).gave g args asks in (
               rw (item_is _ path at last inner row room seg g args, pure_bind_at _ _ (drop s.choice cs) (r (drop s.choice cs))) (fails_gives past_list (rw asks.place at f)),
@@ -97,13 +97,13 @@ module _ {pool names refs types members fields arguments gives nodes literals va
             );
       }
 
-      pub item-given : {v : Given} {b : Bool} {next : ℕ} {behind : State} {r : Step} {text1 text' errors' : List ℕ} → o ≡ resolving.Given v
+      pub item_given : {v : Given} {b : Bool} {next : ℕ} {behind : State} {r : Step} {text1 text' errors' : List ℕ} → o ≡ resolving.Given v
           → b ≡ non_null refs inner → Wrote text text1 s.at next comma → behind ≡ moved_to s next
           → CompletesBehind path last asked pool names refs types members fields nodes literals variables inner b s.at v text1 errors behind r text'
           errors'
           → CompletesItem pool names refs types members fields arguments gives nodes literals variables answers path at asked inner row text errors s r
           text' errors'
-      item-given {v} {b} {r = r} e n w m f = record {
+      item_given {v} {b} {r = r} e n w m f = record {
         steps = λ sets selections fragments cs g args asks.
             let Q = asking pool names refs types members fields arguments sets selections gives fragments nodes literals variables answers in
             let i = ((rw e at h).resolves pool names refs types members fields sets selections fragments nodes (sound.valued pool)).gave g args asks in

@@ -34,8 +34,8 @@ module _ (selections : List ℕ) where
       unfolding selection_at
       tested = rw (← w) e
 
-      pub unasked-next : r ≡ false → Unasked count (row + 1)
-      unasked-next d =
+      pub unasked_next : r ≡ false → Unasked count (row + 1)
+      unasked_next d =
           let z : asks (0 + row) ≡ false = rw zero-add (sym tested ∙ d) in
           record { all = u.all; seeking = seek_next asks rows u.seeking (rw u.all at l) z }
 
@@ -49,4 +49,4 @@ module _ (selections : List ℕ) where
     unfolding introspects rows_in
     asked_nowhere l = none_passes asks (rows_in rows) (rw (seek_none asks rows u.seeking (rw u.all at l)))
 
-pub ruleset asking-schema = (unasked_begin, unasked-next, asked_here, asked_nowhere)
+pub ruleset asking_schema = (unasked_begin, unasked_next, asked_here, asked_nowhere)

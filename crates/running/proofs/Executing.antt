@@ -141,9 +141,9 @@ module _ (T : Tables) where
       made = rw q at (p.comes P itself)
 
       -- what the groups rest on
-      pub operation-ready : {path : Path} {rows : Range} → path.count ≡ 0 → rows ≡ rows_of_object (answer_at T.answers 0)
+      pub operation_ready : {path : Path} {rows : Range} → path.count ≡ 0 → rows ≡ rows_of_object (answer_at T.answers 0)
           → SetReady P store' (replicate 4224 0) (replicate 1024 0) path (record { at = 0; errs = 0; choice = 0; top = top }) plan T.root rows
-      operation-ready c e = record {
+      operation_ready c e = record {
         ready = record {
           sound = sound_of T h;
           standing = made.standing;
@@ -156,13 +156,13 @@ module _ (T : Tables) where
         leads = rw e (rows_led (answer_at T.answers 0) ((sound_of T h).answerable.leads 0));
       }
 
-      pub operation-executed : {cs text errors spans hints text' errors' plans' spans' hints' : List ℕ} {path : Path} {rows : Range} {d : Done}
+      pub operation_executed : {cs text errors spans hints text' errors' plans' spans' hints' : List ℕ} {path : Path} {rows : Range} {d : Done}
           → path_of path ≡ [] → path.count ≡ 0
           → rows ≡ rows_of_object (answer_at T.answers 0)
           → SetDone P cs text errors store' spans hints path (record { at = 0; errs = 0; choice = 0; top = top }) plan T.root rows d text' errors' plans' spans'
           hints'
           → Gives as_data cs text errors at_start (execute (record { tables = T }) cs) d text' errors'
-      operation-executed {cs} pe ce re x =
+      operation_executed {cs} pe ce re x =
           let g = rw (pe, ce, re) at (x.executes (operation_of P) made.right) in
           rw (execute_root T.pool T.names T.refs T.types T.members T.fields T.arguments T.sets T.selections T.given T.fragments
           T.nodes T.literals T.variables T.answers T.root)

@@ -49,19 +49,19 @@ module _ (T : Tables) {code : ℕ} (e : code ≡ table_code T) where
     refusal_tables z u = rw (broken z) u
 
     module _ (z : code ≡ 0) {b c : Bool} (be : b ≡ lawful_buffers text errors) (ce : c ≡ lawful_choices choices) where
-      pub refusal-sizes : not (b && c) ≡ true → r ≡ code_of Unlawful → r ≡ refusal_of T choices text errors
+      pub refusal_sizes : not (b && c) ≡ true → r ≡ code_of Unlawful → r ≡ refusal_of T choices text errors
       unfolding refusal_of
-      refusal-sizes t u = rw (sound z, ← be, ← ce, not-true (b && c) t) u
+      refusal_sizes t u = rw (sound z, ← be, ← ce, not-true (b && c) t) u
 
-      pub refusal-schema : not (b && c) ≡ false → {i : Bool} → i ≡ introspects T.selections → i ≡ true → r ≡ code_of AsksForSchema
+      pub refusal_schema : not (b && c) ≡ false → {i : Bool} → i ≡ introspects T.selections → i ≡ true → r ≡ code_of AsksForSchema
           → r ≡ refusal_of T choices text errors
       unfolding refusal_of
-      refusal-schema t ie it u = rw (sound z, ← be, ← ce, not-false (b && c) t, ← ie, it) u
+      refusal_schema t ie it u = rw (sound z, ← be, ← ce, not-false (b && c) t, ← ie, it) u
 
-      pub refusal-none : not (b && c) ≡ false → {i : Bool} → i ≡ introspects T.selections → i ≡ false → r ≡ code_of Answered
+      pub refusal_none : not (b && c) ≡ false → {i : Bool} → i ≡ introspects T.selections → i ≡ false → r ≡ code_of Answered
           → r ≡ refusal_of T choices text errors
       unfolding refusal_of
-      refusal-none t ie it u = rw (sound z, ← be, ← ce, not-false (b && c) t, ← ie, it) u
+      refusal_none t ie it u = rw (sound z, ← be, ← ce, not-false (b && c) t, ← ie, it) u
 
 -- ---- What it says of the report
 

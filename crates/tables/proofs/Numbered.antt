@@ -9,10 +9,10 @@ use lib.ListN.{length, get_or, get_or-map}
 use Rattle.tables.specs.Rules.{size_rules, size_rule, schema_rules, schema_rule, document_rules, document_rule, value_rules, value_rule, rule_at}
 use Rattle.tables.specs.declared.rule.Rule.{Rule}
 use Rattle.tables.specs.declared.rule.Rule.TheVariants as rule
-use Rattle.tables.specs.contracts.rule.SizeRule.{the_type as the-size-type}
-use Rattle.tables.specs.contracts.rule.SchemaRule.{the_type as the-schema-type}
-use Rattle.tables.specs.contracts.rule.DocumentRule.{the_type as the-document-type}
-use Rattle.tables.specs.contracts.rule.ValueRule.{the_type as the-value-type}
+use Rattle.tables.specs.contracts.rule.SizeRule.{the_type as the_size_type}
+use Rattle.tables.specs.contracts.rule.SchemaRule.{the_type as the_schema_type}
+use Rattle.tables.specs.contracts.rule.DocumentRule.{the_type as the_document_type}
+use Rattle.tables.specs.contracts.rule.ValueRule.{the_type as the_value_type}
 use Rattle.tables.specs.declared.rule.SizeRule.TheVariants as size
 use Rattle.tables.specs.declared.rule.SchemaRule.TheVariants as schema
 use Rattle.tables.specs.declared.rule.DocumentRule.TheVariants as document
@@ -77,10 +77,10 @@ rule_value k l =
 
 -- where a rule stands in the list of all
 abbrev pub number : Rule → ℕ
-number (rule.Size r) = tag_of the-size-type r
-number (rule.Schema r) = 14 + tag_of the-schema-type r
-number (rule.Document r) = 27 + tag_of the-document-type r
-number (rule.Value r) = 36 + tag_of the-value-type r
+number (rule.Size r) = tag_of the_size_type r
+number (rule.Schema r) = 14 + tag_of the_schema_type r
+number (rule.Document r) = 27 + tag_of the_document_type r
+number (rule.Value r) = 36 + tag_of the_value_type r
 
 pub numbered : (r : Rule) → rule_at (number r) ≡ r
 unfolding rule_at

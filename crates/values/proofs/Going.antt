@@ -57,9 +57,9 @@ module _ (key : ℕ → List ℕ) (inside : ℕ → M Json) (keyed : Bool) (firs
   -- the i-th part has a value, or it stops
   module _ {text text1 : List ℕ} {next value i : ℕ} (g : Going text next i) (l : i < count)
       (w : Writes text text1 next value (label keyed (key (first + i)))) where
-    pub part-written : {text2 : List ℕ} {end : ℕ} (j : Json) → ((c : Choices) → inside (first + i) c ≡ done j [] c)
+    pub part_written : {text2 : List ℕ} {end : ℕ} (j : Json) → ((c : Choices) → inside (first + i) c ≡ done j [] c)
         → Writes text1 text2 value end (print j) → Going text2 end (i + 1)
-    part-written j e v = record {
+    part_written j e v = record {
       below = omega arith;
       values = g.values ++ (j ∷ []);
       out = g.out ++ (label keyed (key (first + i)) ++ print j);
@@ -68,14 +68,14 @@ module _ (key : ℕ → List ℕ) (inside : ℕ → M Json) (keyed : Bool) (firs
       written = «then» g.written («then» w v);
     }
 
-    pub part-stops : {s : ℕ} (room : ℕ) → ((c : Choices) → inside (first + i) c ≡ stop s [])
+    pub part_stops : {s : ℕ} (room : ℕ) → ((c : Choices) → inside (first + i) c ≡ stop s [])
         → (c : Choices) → container_of key (suc room) inside keyed rows c ≡ stop s []
-    part-stops room e c =
+    part_stops room e c =
         container_stop key room inside keyed rows c
         (rw (next_part l) at (g.others c) ∙ onto_stop inside (first + i) (rest (i + 1)) g.values c (e c))
 
-    pub part-long : length text1 ≡ length text₀
-    part-long = w.wrote.long ∙ g.written.wrote.long
+    pub part_long : length text1 ≡ length text₀
+    part_long = w.wrote.long ∙ g.written.wrote.long
 
   -- all parts are there
   module _ {text : List ℕ} {next i : ℕ} (g : Going text next i) (l : count ≤ i) where

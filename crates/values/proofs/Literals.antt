@@ -34,7 +34,7 @@ use Rattle.values.specs.contracts.literal.PutLiteral as put
 use Rattle.values.proofs.Insides.{insides, literal_is}
 use Rattle.values.proofs.LiteralEnds.{ends_at, ends_too_far, ends_at_variable, came_at, stops, stops_too}
 use Rattle.values.proofs.Parts.{container_full}
-use Rattle.values.proofs.Going.{Going, going_begin, part-written, part-stops, part-long, whole, whole_done, whole_written}
+use Rattle.values.proofs.Going.{Going, going_begin, part_written, part_stops, part_long, whole, whole_done, whole_written}
 
 -- ---- what is plain
 
@@ -165,7 +165,7 @@ module _ (key : ℕ → List ℕ) (inside : ℕ → M Json) (keyed : Bool) (firs
       → Going key inside keyed first count text₀ at text next i → i < count
       → Writes text text1 next value (label keyed (key (first + i))) → PutsAs (inside (first + i)) text1 value r text2 → r ≡ At end
       → Going key inside keyed first count text₀ at text2 end (i + 1)
-  parts_again g l w q e = let v = came_at q e in part-written key inside keyed first count text₀ at g l w v.0 v.1 v.2
+  parts_again g l w q e = let v = came_at q e in part_written key inside keyed first count text₀ at g l w v.0 v.1 v.2
 
 module _ (pool names literals : List ℕ) (room : ℕ) (parts : Parts) where
   pub parts_none : {text : List ℕ} {at : ℕ} → room ≡ 0 → PutsParts pool names literals room parts text at TooFar text
@@ -197,8 +197,8 @@ module _ (pool names literals : List ℕ) (room : ℕ) (parts : Parts) where
     unfolding rows_in
     parts_stopped l w q o =
         rw (opens z)
-        (stops_too q o (part-long key inside parts.keyed _ _ text₀ at g l w)
-        (λ s e. part-stops key inside parts.keyed _ _ text₀ at g l w (room - 1) e))
+        (stops_too q o (part_long key inside parts.keyed _ _ text₀ at g l w)
+        (λ s e. part_stops key inside parts.keyed _ _ text₀ at g l w (room - 1) e))
 
     pub parts_ended : {end : ℕ} → parts.rows.count ≤ i → Closes (left parts.keyed) (right parts.keyed) text at next text2 end
         → PutsParts pool names literals room parts text₀ at (At end) text2

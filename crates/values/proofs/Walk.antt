@@ -24,7 +24,7 @@ use Rattle.values.specs.declared.node.Shape.TheVariants.{Plain, Container}
 use Rattle.values.proofs.Ends.{ends_at, ends_too_far, came_at, came_too_far}
 use Rattle.values.proofs.Nodes.{container_node, shape_container}
 use Rattle.values.proofs.Parts.{container_full}
-use Rattle.values.proofs.Going.{Going, going_begin, part-written, part-stops, part-long, whole, whole_done, whole_written}
+use Rattle.values.proofs.Going.{Going, going_begin, part_written, part_stops, part_long, whole, whole_done, whole_written}
 
 -- ---- a node is plain or a container
 
@@ -89,7 +89,7 @@ module _ (key : ℕ → List ℕ) (inside : ℕ → M Json) (keyed : Bool) (firs
   pub going_again : {text text1 text2 : List ℕ} {next value i : ℕ} {r : Put} {end : ℕ} → Going key inside keyed first count text₀ at text next i
       → i < count → Writes text text1 next value (label keyed (key (first + i))) → Puts (inside (first + i)) text1 value r text2 → r ≡ At end
       → Going key inside keyed first count text₀ at text2 end (i + 1)
-  going_again g l w q e = let v = came_at q e in part-written key inside keyed first count text₀ at g l w v.0 v.1 v.2
+  going_again g l w q e = let v = came_at q e in part_written key inside keyed first count text₀ at g l w v.0 v.1 v.2
 
 module _ (pool nodes : List ℕ) (room : ℕ) (parts : Parts) where
   pub container_none : {text : List ℕ} {at : ℕ} → room ≡ 0 → PutsContainer pool nodes room parts text at TooFar text
@@ -120,8 +120,8 @@ module _ (pool nodes : List ℕ) (room : ℕ) (parts : Parts) where
     container_stopped l w q e =
         let v = came_too_far q e in
         rw (opens z)
-        (ends_too_far (part-stops (key_text pool nodes) inside parts.keyed _ _ text₀ at g l w (room - 1) v.0)
-        (v.1 ∙ part-long (key_text pool nodes) inside parts.keyed _ _ text₀ at g l w))
+        (ends_too_far (part_stops (key_text pool nodes) inside parts.keyed _ _ text₀ at g l w (room - 1) v.0)
+        (v.1 ∙ part_long (key_text pool nodes) inside parts.keyed _ _ text₀ at g l w))
 
     pub container_ended : {end : ℕ} → parts.rows.count ≤ i → Closes (left parts.keyed) (right parts.keyed) text at next text2 end
         → PutsContainer pool nodes room parts text₀ at (At end) text2

@@ -21,7 +21,7 @@ use Rattle.walking.specs.Settled.{passed_list}
 use Rattle.walking.proofs.Ends.{fall_of}
 use Rattle.walking.proofs.Filling.{fill, slot, empties, open_slot, empties_set, empties_all, filling, filling_begin, filling_next, filling_end}
 use Rattle.walking.proofs.Slotted.{keyed, slot_entry, slotted, slotted_none, slotted_all, slotted_set}
-use Rattle.walking.proofs.Sofar.{Sofar, rides_mark, so_begin, so_is, so_placed, so-lost-set, so_mark, so_ends}
+use Rattle.walking.proofs.Sofar.{Sofar, rides_mark, so_begin, so_is, so_placed, so_lost_set, so_mark, so_ends}
 
 -- what has nothing behind it may be said to stand behind that
 swap_empty : {t t' : List ℕ} {a e : ℕ} (xs ys zs : List ℕ) → Wrote t t' a e (xs ++ (ys ++ zs)) → (e ≤ length t → length ys ≡ 0)
@@ -86,12 +86,12 @@ module _ {G : Type 0} (run : G → M Val) (key : G → List ℕ) (z : G) (cs : C
         (q : Gives (as_entry (keyed (key (group_at slots j)))) cs text errors (record { at = at; errs = errs; choice = c; top = top })
         (run (group_at slots j) (drop c cs)) d text2 errors2) where
       -- The set is given up.
-      pub setting-lost : {f : Failure} → d.what ≡ Fails f
+      pub setting_lost : {f : Failure} → d.what ≡ Fails f
           → Gives as_data cs text₀ errors₀ s whole (passed_list (record { what = d.what; state = moved_to d.state s.at })) text2 errors2
       unfolding any_order mark ◌>>=◌
-      setting-lost e =
+      setting_lost e =
           let f = fall_of (as_entry (keyed (key (group_at slots j)))) (run (group_at slots j) (drop c cs)) (sym e ∙ q.what) in
-          so-lost-set cs (run (group_at slots j)) _ next q f refl h.wrote (rides_mark p groups _)
+          so_lost_set cs (run (group_at slots j)) _ next q f refl h.wrote (rides_mark p groups _)
 
       before : List ℕ
       before = slotted key gs (take (slot slots j) slots)
@@ -132,24 +132,24 @@ module _ {G : Type 0} (run : G → M Val) (key : G → List ℕ) (z : G) (cs : C
             omega (arith, x, h.wrote.moved, h.wrote.long, e.moved, e.long)
 
       -- The entry goes to its place among those that there are.
-      pub setting-again : {off : ℕ} {text3 : List ℕ} → Moves text2 off at d.state.at text3
+      pub setting_again : {off : ℕ} {text3 : List ℕ} → Moves text2 off at d.state.at text3
           → (d.state.at ≤ length text2 → off ≡ s.at + length (slotted key gs (take (slot slots j) slots)))
           → {k : Kind} → d.what ≡ Placed k → Turned slots j at text text2 text3 errors2 d m
       unfolding before entry
-      setting-again moves offset e =
+      setting_again moves offset e =
           again (λ v w. same (sym (parts.2 v)) (moves.moves text₀ before parts.0 (entry v w) s.at (behind v w)
           (λ k. (offset k, exact v w k)))) e
 
       -- It is in its place: no entry stands behind that.
-      pub setting-behind : (d.state.at ≤ length text2 → at ≡ s.at + length (slotted key gs (take (slot slots j) slots)))
+      pub setting_behind : (d.state.at ≤ length text2 → at ≡ s.at + length (slotted key gs (take (slot slots j) slots)))
           → {k : Kind} → d.what ≡ Placed k → Turned slots j at text text2 text2 errors2 d m
       unfolding before entry
-      setting-behind last e =
-          again (λ v w. same (sym (parts.2 v)) (swap_empty before parts.0 (entry v w) (behind v w) (λ k. none-behind v w k))) e
+      setting_behind last e =
+          again (λ v w. same (sym (parts.2 v)) (swap_empty before parts.0 (entry v w) (behind v w) (λ k. none_behind v w k))) e
         where
-          none-behind : (v : Val) (w : Wrote text text2 at d.state.at (slot_entry key (group_at slots j) (some v))) → d.state.at ≤ length text₀
+          none_behind : (v : Val) (w : Wrote text text2 at d.state.at (slot_entry key (group_at slots j) (some v))) → d.state.at ≤ length text₀
               → length parts.0 ≡ 0
-          none-behind v w k =
+          none_behind v w k =
               let k' : d.state.at ≤ length text2 = omega (arith, k, (behind v w).long) in
               omega (arith, last k', exact v w k')
 

@@ -16,7 +16,7 @@ use Rattle.walking.specs.declared.state.Done.{Done}
 use Rattle.walking.specs.Gives.{as_value, as_entry, labelled, moved_to, Gives}
 use Rattle.walking.proofs.RunLaws.{in_end, in_next, in_append}
 use Rattle.walking.proofs.Ends.{fall_of}
-use Rattle.walking.proofs.Sofar.{Sofar, rides_same, so_begin, so_is, so_placed, so-lost, so_ends}
+use Rattle.walking.proofs.Sofar.{Sofar, rides_same, so_begin, so_is, so_placed, so_lost, so_ends}
 use Rattle.walking.proofs.Plain.{Plains, plain_in_order, so_plain}
 
 -- what stands before an item
@@ -73,8 +73,8 @@ module _ {G : Type 0} (run : G → M Val) where
           errors s'.errs s'.choice
       next = so_is cs _ _ s'.choice h.so (ap (λ (m : M Val). m (drop s'.choice cs)) (listing_next h.values g left))
 
-      pub listing-again : {k : Kind} → d.what ≡ Placed k → Listing text' errors' d.state.at d.state.errs d.state.choice left
-      listing-again e =
+      pub listing_again : {k : Kind} → d.what ≡ Placed k → Listing text' errors' d.state.at d.state.errs d.state.choice left
+      listing_again e =
           let r = so_placed cs (run g) _ next q e in
           record {
             values = h.values ++ (r.0 ∷ []);
@@ -84,10 +84,10 @@ module _ {G : Type 0} (run : G → M Val) where
                 («then» h.wrote r.2);
           }
 
-      pub listing-lost : {f : Failure} → d.what ≡ Fails f
+      pub listing_lost : {f : Failure} → d.what ≡ Fails f
           → Gives as_value cs text₀ errors₀ s (listing [] gs (drop s.choice cs))
           (record { what = d.what; state = moved_to d.state s.at }) text' errors'
-      listing-lost e = so-lost cs (run g) _ next q (fall_of (as_entry comma) _ (sym e ∙ q.what)) refl h.wrote (rides_same _)
+      listing_lost e = so_lost cs (run g) _ next q (fall_of (as_entry comma) _ (sym e ∙ q.what)) refl h.wrote (rides_same _)
 
     -- Several items were done at once, plainly.
     pub listing_plain : {text text' errors : List ℕ} {at errs choice at' choice' n : ℕ} {xs left : List G} {us : List Val}

@@ -62,16 +62,16 @@ module _ {G B : Type 0} (run : G → M B) where
     parted : {k m : ℕ} {v : B} {us : List B} → Plain k (run (the i g gs)) v → Plains (others i g gs) m us → put_back i v us ≡ vs → k + m ≡ n
         → length (others i g gs) ≡ length gs → Parted i g gs n vs
 
-  part-more : {i : ℕ} {g h : G} {gs : List G} {k n : ℕ} {v : B} {vs : List B} → Plain k (run g) v → Parted i h gs n vs
+  part_more : {i : ℕ} {g h : G} {gs : List G} {k n : ℕ} {v : B} {vs : List B} → Plain k (run g) v → Parted i h gs n vs
       → Parted (suc i) g (h ∷ gs) (k + n) (v ∷ vs)
   unfolding the others put_back
-  part-more {v = v} p (parted q t e s l) = parted q (one p t) (ap (λ (us : List B). v ∷ us) e) (omega arith) (ap suc l)
+  part_more {v = v} p (parted q t e s l) = parted q (one p t) (ap (λ (us : List B). v ∷ us) e) (omega arith) (ap suc l)
 
   part : (i : ℕ) {g : G} {gs : List G} {n : ℕ} {vs : List B} → Plains (g ∷ gs) n vs → Parted i g gs n vs
   unfolding the others put_back
   part zero (one p t) = parted p t refl refl refl
   part (suc i) (one p nothing) = parted p nothing refl refl refl
-  part (suc i) (one p (one q t)) = part-more p (part i (one q t))
+  part (suc i) (one p (one q t)) = part_more p (part i (one q t))
 
   picks : (n : ℕ) (c : Choices) → (i : ℕ) × (pick n c ≡ done i [] (drop 1 c))
   unfolding pick

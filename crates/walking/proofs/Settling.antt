@@ -113,10 +113,10 @@ module _ {start : ℕ} {d : Done} where
           → Gives (as_entry label) cs text errors (moved_to s start) x d text2 errors'
       go s (stop n w) p g a = absurd (let z : ◌≡◌ {A = ℕ} 0 1 = cc in omega arith)
       go s (failed r w c) p g a = absurd (let z : ◌≡◌ {A = ℕ} 0 1 = cc in omega arith)
-      go s (done absent w c) p g a = absurd (kept-not (cc))
+      go s (done absent w c) p g a = absurd (kept_not (cc))
         where
-          kept-not : k ≡ kind.LeftOut → ⊥
-          kept-not z = ⊎_elim (λ h. omega arith) (λ u. ⊎_elim (λ h. omega arith) (λ v. ⊎_elim (λ h. omega arith) (λ h. omega arith) v) u) (opened (rw z at o))
+          kept_not : k ≡ kind.LeftOut → ⊥
+          kept_not z = ⊎_elim (λ h. omega arith) (λ u. ⊎_elim (λ h. omega arith) (λ v. ⊎_elim (λ h. omega arith) (λ h. omega arith) v) u) (opened (rw z at o))
       go s (done (val v) w c) p g a = record { what = g.what; wrote = «then» p g.wrote; noted = g.noted; chosen = g.chosen }
 
   pub settle_left_out : {k : Kind} {m : State} → d.what ≡ Placed k → k ≡ kind.LeftOut → m ≡ moved_to d.state start

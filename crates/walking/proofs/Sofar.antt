@@ -143,10 +143,10 @@ module _ (cs : Choices) {A : Type 0} where
         let p = placed_of U (m (drop s'.choice cs)) (sym h ∙ q.what) in
         let r = so_given p.3 in
         let z = rw p.3 at q in
-        (p.0, kind-is (sym h ∙ z.what), r.0, r.1)
+        (p.0, kind_is (sym h ∙ z.what), r.0, r.1)
       where
-        kind-is : {i j : Kind} → Placed i ≡ Placed j → i ≡ j
-        kind-is e = cc
+        kind_is : {i j : Kind} → Placed i ≡ Placed j → i ≡ j
+        kind_is e = cc
 
     lost_fall : Fall (m (drop s'.choice cs)) → Fall x
     unfolding ◌>>=◌
@@ -155,18 +155,18 @@ module _ (cs : Choices) {A : Type 0} where
     -- It came to none, and so the whole has none: the text that was written before the call goes back to where the whole began.
     module _ (f : Fall (m (drop s'.choice cs))) {t₀ : List ℕ} {s : State} {out : List ℕ} (z : s.errs ≡ a₀)
         (w : Wrote t₀ t s.at s'.at out) where
-      lost-whole : (W : View A) → Gives W cs t₀ e₀ s x (record { what = d.what; state = moved_to d.state s.at }) t' e'
+      lost_whole : (W : View A) → Gives W cs t₀ e₀ s x (record { what = d.what; state = moved_to d.state s.at }) t' e'
       unfolding ◌>>=◌
-      lost-whole W = rw g.came (lose W k g.log (rw z g.noted) q f w)
+      lost_whole W = rw g.came (lose W k g.log (rw z g.noted) q f w)
 
-      pub so-lost : {C : Type 0} {W : View C} {y : Res C} → Rides x y
+      pub so_lost : {C : Type 0} {W : View C} {y : Res C} → Rides x y
           → Gives W cs t₀ e₀ s y (record { what = d.what; state = moved_to d.state s.at }) t' e'
-      so-lost r = ride (lost_fall f) r (lost-whole no_view)
+      so_lost r = ride (lost_fall f) r (lost_whole no_view)
 
       -- The same of a set, which lowers its failure.
-      pub so-lost-set : {C : Type 0} {W : View C} {y : Res C} → Rides (lowered x) y
+      pub so_lost_set : {C : Type 0} {W : View C} {y : Res C} → Rides (lowered x) y
           → Gives W cs t₀ e₀ s y (passed_list (record { what = d.what; state = moved_to d.state s.at })) t' e'
-      so-lost-set r = ride (fall_lowered (lost_fall f)) r (lowered_gives (lost-whole no_view))
+      so_lost_set r = ride (fall_lowered (lost_fall f)) r (lowered_gives (lost_whole no_view))
 
 -- Nothing is left, and the text is the value's: the end of a part.
 pub so_ends : {A : Type 0} {U : View A} {cs : Choices} {x : Res A} {e₀ e : List ℕ} {a₀ a c top : ℕ} (v : A) → Sofar cs x e₀ a₀ (pure v) e a c

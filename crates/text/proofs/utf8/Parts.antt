@@ -200,19 +200,19 @@ boundary_end s at e = rw (get_or-eq_default s 0 {n = at} (omega arith))
 pub boundary_looked : (s : List ℕ) (at : ℕ) (r : Bool) → r ≡ (get_or s at 0 ∈ UTF8-tail) → not r ≡ is_boundary s at
 boundary_looked s at r e = ap not e
 
-pub part-empty : (pool : List ℕ) (start end : ℕ) → start ≡ end → true ≡ is_utf8 (take (end - start) (drop start pool))
+pub part_empty : (pool : List ℕ) (start end : ℕ) → start ≡ end → true ≡ is_utf8 (take (end - start) (drop start pool))
 unfolding is_utf8 octets_after
-part-empty pool start end e = let nothing : end - start ≡ 0 = omega arith in rw nothing
+part_empty pool start end e = let nothing : end - start ≡ 0 = omega arith in rw nothing
 
 module _ (pool : List ℕ) (start end : ℕ) (valid : is_utf8 pool ≡ true) (order : start ≤ end) (apart : start ≡ end → ⊥) where
-  part-ends : is_utf8 (take (end - start) (drop start pool)) ≡ (is_boundary pool start && is_boundary pool end)
-  part-ends =
+  part_ends : is_utf8 (take (end - start) (drop start pool)) ≡ (is_boundary pool start && is_boundary pool end)
+  part_ends =
       let upto : start + (end - start) ≡ end = omega arith in
       utf8_part pool valid start (end - start) ∙ rw (ne_eqb (end - start) 0 (λ e. apart (omega arith)), upto)
 
   module _ (r : Bool) (e : r ≡ is_boundary pool start) where
-    pub part-inside : not r ≡ true → false ≡ is_utf8 (take (end - start) (drop start pool))
-    part-inside t = sym (part-ends ∙ rw (← e, not-true r t))
+    pub part_inside : not r ≡ true → false ≡ is_utf8 (take (end - start) (drop start pool))
+    part_inside t = sym (part_ends ∙ rw (← e, not-true r t))
 
-    pub part-from : (u : Bool) → not r ≡ false → u ≡ is_boundary pool end → u ≡ is_utf8 (take (end - start) (drop start pool))
-    part-from u t d = d ∙ sym (part-ends ∙ rw (← e, not-false r t))
+    pub part_from : (u : Bool) → not r ≡ false → u ≡ is_boundary pool end → u ≡ is_utf8 (take (end - start) (drop start pool))
+    part_from u t d = d ∙ sym (part_ends ∙ rw (← e, not-false r t))

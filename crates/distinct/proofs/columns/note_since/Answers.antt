@@ -4,7 +4,7 @@ use Prim.Native.Nat.{◌+◌, ◌<◌}
 use native.Mathlib.Omega.{arith}
 use lib.ListN.{length, length-set}
 use lib.Seq.{get_or-set_same}
-use Rattle.distinct.proofs.Differ.{after_from, since_none, since_low, since-one}
+use Rattle.distinct.proofs.Differ.{after_from, since_none, since_low, since_one}
 use Rattle.distinct.proofs.Chains.{lasts_none, lasts_one, lasts_found}
 use borrow.Author.Rules.{rules}
 use Rattle.distinct.proofs.columns.note_since.Goals as goal
@@ -27,7 +27,7 @@ loop-row-preserved c = let room : c.loop-row.row + 1 < length c.loop-row.since =
   search rules,
   length-set c.loop-row.since (c.loop-row.row + 1) c.later-from.result ∙ c.loop-row.invariant.1,
   lasts_one _ _ _ _ _ c.loop-row.invariant.2 c.cell-word.ensures c.if-word-ge512.false,
-  since-one _ _ _ c.loop-row.invariant.3 c.later-from.result
+  since_one _ _ _ c.loop-row.invariant.3 c.later-from.result
       (rw (c.later-from.ensures, c.loop-row.invariant.4)
       (after_from _ _ _ _ (lasts_found _ _ _ _ _ c.loop-row.invariant.2 c.cell-word.ensures c.if-word-ge512.false) (since_low _ _ _ c.loop-row.invariant.3)))
       room,

@@ -1,6 +1,6 @@
 -- A literal at a type, written, by one induction: the containers that may still be opened fall. Assumes nothing.
 use borrow.Author.Rules.{rules}
-use Rattle.echoing.proofs.Fields.{items-again}
+use Rattle.echoing.proofs.Fields.{items_again}
 use Rattle.input_coercion.proofs.Walk.{form_shaped, listable, keyed_within, few_declared}
 use Rattle.echoing.proofs.Walk.{literals_parted_lem, valuing, shaping, naming, itemizing, fielding, opening}
 use Rattle.echoing.proofs.echo.+put_coerced_put_input_field_put_input_object_put_items_put_named_put_shaped.Goals as goal
@@ -72,7 +72,7 @@ pub put_items-loop-i-smaller : goal.put_items-loop-i-smaller
 put_items-loop-i-smaller t c = search (rules, c.loop-i-test.true)
 
 pub put_items-loop-i-preserved : goal.put_items-loop-i-preserved
-put_items-loop-i-preserved t c = items-again _ _ _ _ _ _ _ _ _ _ _
+put_items-loop-i-preserved t c = items_again _ _ _ _ _ _ _ _ _ _ _
     c.loop-i.invariant
     c.loop-i-test.true
     c.put-value.ensures

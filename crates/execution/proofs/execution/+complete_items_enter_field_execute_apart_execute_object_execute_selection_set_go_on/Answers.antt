@@ -2,12 +2,12 @@
 use mathlib.Core.Path.{refl}
 use native.Mathlib.Omega.{arith}
 use borrow.Author.Rules.{rules}
-use Rattle.execution.proofs.Looping.{items_begin, items_itemizable, items_numbered, items_ready, items-again, items-lost, items_ended}
+use Rattle.execution.proofs.Looping.{items_begin, items_itemizable, items_numbered, items_ready, items_again, items_lost, items_ended}
 use Rattle.execution.proofs.Entering.{field_first, field_second, field_small, field_row, field_own, field_ready, field_done}
-use Rattle.execution.proofs.Beneath.{object_plannable, object-set-ready, object-set, object-apart-ready, object-apart, object_stops}
-use Rattle.execution.proofs.Beneath.{apart_lookable, apart_storable, apart-set-ready, apart-set, apart_stops}
-use Rattle.execution.proofs.Sets.{set_there, set_spans, set_text, set_errors, set_begin, set-tally, set-field-ready, set_room, set-lost, set_again, set_ended}
-use Rattle.execution.proofs.Going.{go_finished, go_roomy, go-list-ready, go-object-ready, go_list, go_object}
+use Rattle.execution.proofs.Beneath.{object_plannable, object_set_ready, object_set, object_apart_ready, object_apart, object_stops}
+use Rattle.execution.proofs.Beneath.{apart_lookable, apart_storable, apart_set_ready, apart_set, apart_stops}
+use Rattle.execution.proofs.Sets.{set_there, set_spans, set_text, set_errors, set_begin, set_tally, set_field_ready, set_room, set_lost, set_again, set_ended}
+use Rattle.execution.proofs.Going.{go_finished, go_roomy, go_list_ready, go_object_ready, go_list, go_object}
 use Rattle.execution.proofs.execution.+complete_items_enter_field_execute_apart_execute_object_execute_selection_set_go_on.Goals as goal
 
 pub complete_items-loop-i-init : goal.complete_items-loop-i-init
@@ -20,22 +20,22 @@ pub complete_items-go_on-d-requires : goal.complete_items-go_on-d-requires
 complete_items-go_on-d-requires t c = (omega arith, items_ready _ _ _ _ _ _ _ _ _ _ _ _ _ _ _ c.requires c.loop-i.invariant c.loop-i-test.true refl c.complete_item-step.ensures)
 
 pub complete_items-shape_of-text-in_default : goal.complete_items-shape_of-text-in_default
-complete_items-shape_of-text-in_default t c = (items-lost _ _ _ _ _ _ _ _ _ _ _ _ _ _ _ c.requires c.loop-i.invariant c.loop-i-test.true refl c.complete_item-step.ensures c.go_on-d.ensures c.in_default.is).same_text
+complete_items-shape_of-text-in_default t c = (items_lost _ _ _ _ _ _ _ _ _ _ _ _ _ _ _ c.requires c.loop-i.invariant c.loop-i-test.true refl c.complete_item-step.ensures c.go_on-d.ensures c.in_default.is).same_text
 
 pub complete_items-shape_of-errors-in_default : goal.complete_items-shape_of-errors-in_default
-complete_items-shape_of-errors-in_default t c = (items-lost _ _ _ _ _ _ _ _ _ _ _ _ _ _ _ c.requires c.loop-i.invariant c.loop-i-test.true refl c.complete_item-step.ensures c.go_on-d.ensures c.in_default.is).same_errors
+complete_items-shape_of-errors-in_default t c = (items_lost _ _ _ _ _ _ _ _ _ _ _ _ _ _ _ c.requires c.loop-i.invariant c.loop-i-test.true refl c.complete_item-step.ensures c.go_on-d.ensures c.in_default.is).same_errors
 
 pub complete_items-shape_of-plans-in_default : goal.complete_items-shape_of-plans-in_default
-complete_items-shape_of-plans-in_default t c = (items-lost _ _ _ _ _ _ _ _ _ _ _ _ _ _ _ c.requires c.loop-i.invariant c.loop-i-test.true refl c.complete_item-step.ensures c.go_on-d.ensures c.in_default.is).left.kept.sized
+complete_items-shape_of-plans-in_default t c = (items_lost _ _ _ _ _ _ _ _ _ _ _ _ _ _ _ c.requires c.loop-i.invariant c.loop-i-test.true refl c.complete_item-step.ensures c.go_on-d.ensures c.in_default.is).left.kept.sized
 
 pub complete_items-shape_of-spans-in_default : goal.complete_items-shape_of-spans-in_default
-complete_items-shape_of-spans-in_default t c = (items-lost _ _ _ _ _ _ _ _ _ _ _ _ _ _ _ c.requires c.loop-i.invariant c.loop-i-test.true refl c.complete_item-step.ensures c.go_on-d.ensures c.in_default.is).left.unspanned.sized
+complete_items-shape_of-spans-in_default t c = (items_lost _ _ _ _ _ _ _ _ _ _ _ _ _ _ _ c.requires c.loop-i.invariant c.loop-i-test.true refl c.complete_item-step.ensures c.go_on-d.ensures c.in_default.is).left.unspanned.sized
 
 pub complete_items-shape_of-hints-in_default : goal.complete_items-shape_of-hints-in_default
-complete_items-shape_of-hints-in_default t c = (items-lost _ _ _ _ _ _ _ _ _ _ _ _ _ _ _ c.requires c.loop-i.invariant c.loop-i-test.true refl c.complete_item-step.ensures c.go_on-d.ensures c.in_default.is).left.hinted
+complete_items-shape_of-hints-in_default t c = (items_lost _ _ _ _ _ _ _ _ _ _ _ _ _ _ _ c.requires c.loop-i.invariant c.loop-i-test.true refl c.complete_item-step.ensures c.go_on-d.ensures c.in_default.is).left.hinted
 
 pub complete_items-returns-in_default : goal.complete_items-returns-in_default
-complete_items-returns-in_default t c = rw c.moved.ensures (items-lost _ _ _ _ _ _ _ _ _ _ _ _ _ _ _ c.requires c.loop-i.invariant c.loop-i-test.true refl c.complete_item-step.ensures c.go_on-d.ensures c.in_default.is)
+complete_items-returns-in_default t c = rw c.moved.ensures (items_lost _ _ _ _ _ _ _ _ _ _ _ _ _ _ _ c.requires c.loop-i.invariant c.loop-i-test.true refl c.complete_item-step.ensures c.go_on-d.ensures c.in_default.is)
 
 pub complete_items-overflow_add-i : goal.complete_items-overflow_add-i
 complete_items-overflow_add-i t c = omega (arith, c.loop-i-test.true, c.requires.leads)
@@ -44,7 +44,7 @@ pub complete_items-loop-i-smaller : goal.complete_items-loop-i-smaller
 complete_items-loop-i-smaller t c = omega (arith, c.loop-i-test.true)
 
 pub complete_items-loop-i-preserved : goal.complete_items-loop-i-preserved
-complete_items-loop-i-preserved t c = items-again _ _ _ _ _ _ _ _ _ _ _ _ _ _ _ c.requires c.loop-i.invariant c.loop-i-test.true refl c.complete_item-step.ensures c.go_on-d.ensures c.in-Placed.is
+complete_items-loop-i-preserved t c = items_again _ _ _ _ _ _ _ _ _ _ _ _ _ _ _ c.requires c.loop-i.invariant c.loop-i-test.true refl c.complete_item-step.ensures c.go_on-d.ensures c.in-Placed.is
 
 pub complete_items-returns : goal.complete_items-returns
 complete_items-returns t c = rw c.placed.ensures (items_ended c.requires c.loop-i.invariant c.loop-i-test.false c.close-end.ensures)
@@ -71,28 +71,28 @@ pub execute_apart-returns-in_default : goal.execute_apart-returns-in_default
 execute_apart-returns-in_default t c = apart_stops c.requires refl c.plan_apart-planned.ensures c.in_default.not-At c.stop_code.ensures c.stopped.ensures
 
 pub execute_apart-execute_selection_set-d-requires : goal.execute_apart-execute_selection_set-d-requires
-execute_apart-execute_selection_set-d-requires t c = (omega arith, rw c.planned_to.ensures (apart-set-ready c.requires refl c.plan_apart-planned.ensures c.in-At.is))
+execute_apart-execute_selection_set-d-requires t c = (omega arith, rw c.planned_to.ensures (apart_set_ready c.requires refl c.plan_apart-planned.ensures c.in-At.is))
 
 pub execute_apart-returns : goal.execute_apart-returns
-execute_apart-returns t c = apart-set c.requires refl c.plan_apart-planned.ensures c.in-At.is c.done_apart.ensures (rw c.planned_to.ensures at c.execute_selection_set-d.ensures)
+execute_apart-returns t c = apart_set c.requires refl c.plan_apart-planned.ensures c.in-At.is c.done_apart.ensures (rw c.planned_to.ensures at c.execute_selection_set-d.ensures)
 
 pub execute_object-plan_for-planned-requires : goal.execute_object-plan_for-planned-requires
 execute_object-plan_for-planned-requires t c = (object_plannable c.requires, c.requires.ready.hinted)
 
 pub execute_object-execute_apart-requires : goal.execute_object-execute_apart-requires
-execute_object-execute_apart-requires t c = (omega arith, object-apart-ready c.requires _ c.plan_for-planned.ensures (search rules) c.in-NoRoom.is)
+execute_object-execute_apart-requires t c = (omega arith, object_apart_ready c.requires _ c.plan_for-planned.ensures (search rules) c.in-NoRoom.is)
 
 pub execute_object-execute_selection_set-requires : goal.execute_object-execute_selection_set-requires
-execute_object-execute_selection_set-requires t c = (omega arith, rw c.planned_to.ensures (object-set-ready c.requires _ c.plan_for-planned.ensures (search rules) c.in-At.is))
+execute_object-execute_selection_set-requires t c = (omega arith, rw c.planned_to.ensures (object_set_ready c.requires _ c.plan_for-planned.ensures (search rules) c.in-At.is))
 
 pub execute_object-returns-in-NoRoom : goal.execute_object-returns-in-NoRoom
-execute_object-returns-in-NoRoom t c = object-apart c.requires _ c.plan_for-planned.ensures (search rules) c.in-NoRoom.is c.execute_apart.ensures
+execute_object-returns-in-NoRoom t c = object_apart c.requires _ c.plan_for-planned.ensures (search rules) c.in-NoRoom.is c.execute_apart.ensures
 
 pub execute_object-shape_of-plans-in-At : goal.execute_object-shape_of-plans-in-At
-execute_object-shape_of-plans-in-At t c = (object-set c.requires _ c.plan_for-planned.ensures (search rules) c.in-At.is (rw c.planned_to.ensures at c.execute_selection_set.ensures)).left.kept.sized
+execute_object-shape_of-plans-in-At t c = (object_set c.requires _ c.plan_for-planned.ensures (search rules) c.in-At.is (rw c.planned_to.ensures at c.execute_selection_set.ensures)).left.kept.sized
 
 pub execute_object-returns-in-At : goal.execute_object-returns-in-At
-execute_object-returns-in-At t c = object-set c.requires _ c.plan_for-planned.ensures (search rules) c.in-At.is (rw c.planned_to.ensures at c.execute_selection_set.ensures)
+execute_object-returns-in-At t c = object_set c.requires _ c.plan_for-planned.ensures (search rules) c.in-At.is (rw c.planned_to.ensures at c.execute_selection_set.ensures)
 
 pub execute_object-returns-in_default : goal.execute_object-returns-in_default
 execute_object-returns-in_default t c = object_stops c.requires _ c.plan_for-planned.ensures (search rules) c.in_default.not-At c.in_default.not-NoRoom c.stop_code.ensures c.stopped.ensures
@@ -107,28 +107,28 @@ pub execute_selection_set-loop-taken-init : goal.execute_selection_set-loop-take
 execute_selection_set-loop-taken-init t c = set_begin c.requires c.group_count-groups.ensures refl c.clear_spans.ensures
 
 pub execute_selection_set-next_group-group-requires : goal.execute_selection_set-next_group-group-requires
-execute_selection_set-next_group-group-requires t c = set-tally c.requires c.group_count-groups.ensures refl c.clear_spans.ensures c.loop-taken.invariant c.loop-taken-test.true
+execute_selection_set-next_group-group-requires t c = set_tally c.requires c.group_count-groups.ensures refl c.clear_spans.ensures c.loop-taken.invariant c.loop-taken-test.true
 
 pub execute_selection_set-enter_field-d-requires : goal.execute_selection_set-enter_field-d-requires
-execute_selection_set-enter_field-d-requires t c = (omega arith, set-field-ready c.requires c.group_count-groups.ensures refl c.clear_spans.ensures c.loop-taken.invariant c.loop-taken-test.true c.next_group-group.ensures refl)
+execute_selection_set-enter_field-d-requires t c = (omega arith, set_field_ready c.requires c.group_count-groups.ensures refl c.clear_spans.ensures c.loop-taken.invariant c.loop-taken-test.true c.next_group-group.ensures refl)
 
 pub execute_selection_set-shape_of-text-in_default : goal.execute_selection_set-shape_of-text-in_default
-execute_selection_set-shape_of-text-in_default t c = set_text c.requires (set-lost c.requires c.group_count-groups.ensures refl c.clear_spans.ensures c.loop-taken.invariant c.loop-taken-test.true c.next_group-group.ensures c.past_choice.ensures c.enter_field-d.ensures c.in_default.is)
+execute_selection_set-shape_of-text-in_default t c = set_text c.requires (set_lost c.requires c.group_count-groups.ensures refl c.clear_spans.ensures c.loop-taken.invariant c.loop-taken-test.true c.next_group-group.ensures c.past_choice.ensures c.enter_field-d.ensures c.in_default.is)
 
 pub execute_selection_set-shape_of-errors-in_default : goal.execute_selection_set-shape_of-errors-in_default
-execute_selection_set-shape_of-errors-in_default t c = set_errors c.requires (set-lost c.requires c.group_count-groups.ensures refl c.clear_spans.ensures c.loop-taken.invariant c.loop-taken-test.true c.next_group-group.ensures c.past_choice.ensures c.enter_field-d.ensures c.in_default.is)
+execute_selection_set-shape_of-errors-in_default t c = set_errors c.requires (set_lost c.requires c.group_count-groups.ensures refl c.clear_spans.ensures c.loop-taken.invariant c.loop-taken-test.true c.next_group-group.ensures c.past_choice.ensures c.enter_field-d.ensures c.in_default.is)
 
 pub execute_selection_set-shape_of-plans-in_default : goal.execute_selection_set-shape_of-plans-in_default
-execute_selection_set-shape_of-plans-in_default t c = (set-lost c.requires c.group_count-groups.ensures refl c.clear_spans.ensures c.loop-taken.invariant c.loop-taken-test.true c.next_group-group.ensures c.past_choice.ensures c.enter_field-d.ensures c.in_default.is).left.kept.sized
+execute_selection_set-shape_of-plans-in_default t c = (set_lost c.requires c.group_count-groups.ensures refl c.clear_spans.ensures c.loop-taken.invariant c.loop-taken-test.true c.next_group-group.ensures c.past_choice.ensures c.enter_field-d.ensures c.in_default.is).left.kept.sized
 
 pub execute_selection_set-shape_of-spans-in_default : goal.execute_selection_set-shape_of-spans-in_default
-execute_selection_set-shape_of-spans-in_default t c = (set-lost c.requires c.group_count-groups.ensures refl c.clear_spans.ensures c.loop-taken.invariant c.loop-taken-test.true c.next_group-group.ensures c.past_choice.ensures c.enter_field-d.ensures c.in_default.is).left.unspanned.sized
+execute_selection_set-shape_of-spans-in_default t c = (set_lost c.requires c.group_count-groups.ensures refl c.clear_spans.ensures c.loop-taken.invariant c.loop-taken-test.true c.next_group-group.ensures c.past_choice.ensures c.enter_field-d.ensures c.in_default.is).left.unspanned.sized
 
 pub execute_selection_set-shape_of-hints-in_default : goal.execute_selection_set-shape_of-hints-in_default
-execute_selection_set-shape_of-hints-in_default t c = (set-lost c.requires c.group_count-groups.ensures refl c.clear_spans.ensures c.loop-taken.invariant c.loop-taken-test.true c.next_group-group.ensures c.past_choice.ensures c.enter_field-d.ensures c.in_default.is).left.hinted
+execute_selection_set-shape_of-hints-in_default t c = (set_lost c.requires c.group_count-groups.ensures refl c.clear_spans.ensures c.loop-taken.invariant c.loop-taken-test.true c.next_group-group.ensures c.past_choice.ensures c.enter_field-d.ensures c.in_default.is).left.hinted
 
 pub execute_selection_set-returns-in_default : goal.execute_selection_set-returns-in_default
-execute_selection_set-returns-in_default t c = rw (c.past_list.ensures, c.moved.ensures) (set-lost c.requires c.group_count-groups.ensures refl c.clear_spans.ensures c.loop-taken.invariant c.loop-taken-test.true c.next_group-group.ensures c.past_choice.ensures c.enter_field-d.ensures c.in_default.is)
+execute_selection_set-returns-in_default t c = rw (c.past_list.ensures, c.moved.ensures) (set_lost c.requires c.group_count-groups.ensures refl c.clear_spans.ensures c.loop-taken.invariant c.loop-taken-test.true c.next_group-group.ensures c.past_choice.ensures c.enter_field-d.ensures c.in_default.is)
 
 pub execute_selection_set-put_in_place-low-requires : goal.execute_selection_set-put_in_place-low-requires
 execute_selection_set-put_in_place-low-requires t c = set_room c.requires c.group_count-groups.ensures refl c.clear_spans.ensures c.loop-taken.invariant c.loop-taken-test.true c.next_group-group.ensures c.past_choice.ensures c.enter_field-d.ensures
@@ -152,10 +152,10 @@ pub go_on-below-down-requires : goal.go_on-below-down-requires
 go_on-below-down-requires t c = go_roomy c.requires c.in-Deeper.is
 
 pub go_on-complete_items-d-requires : goal.go_on-complete_items-d-requires
-go_on-complete_items-d-requires t c = (omega (arith, go_roomy c.requires c.in-Deeper.is, c.below-down.ensures.1), go-list-ready c.requires c.in-Deeper.is _ c.below-down.ensures c.in-List.is)
+go_on-complete_items-d-requires t c = (omega (arith, go_roomy c.requires c.in-Deeper.is, c.below-down.ensures.1), go_list_ready c.requires c.in-Deeper.is _ c.below-down.ensures c.in-List.is)
 
 pub go_on-execute_object-d-requires : goal.go_on-execute_object-d-requires
-go_on-execute_object-d-requires t c = (omega (arith, go_roomy c.requires c.in-Deeper.is, c.below-down.ensures.1), go-object-ready c.requires c.in-Deeper.is _ c.below-down.ensures c.in-Object.is)
+go_on-execute_object-d-requires t c = (omega (arith, go_roomy c.requires c.in-Deeper.is, c.below-down.ensures.1), go_object_ready c.requires c.in-Deeper.is _ c.below-down.ensures c.in-Object.is)
 
 pub go_on-returns-in-List : goal.go_on-returns-in-List
 go_on-returns-in-List t c = go_list c.requires c.in-Deeper.is c.in-List.is c.complete_items-d.ensures c.below-down.ensures c.list_done.ensures

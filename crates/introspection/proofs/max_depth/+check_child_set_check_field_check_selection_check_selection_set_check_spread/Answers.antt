@@ -2,7 +2,7 @@
 use native.Mathlib.Omega.{arith}
 use borrow.Author.Rules.{rules}
 use Rattle.introspection.proofs.Walk.{walk_on, child_none, child_checked, field_same, field_deep, field_raised, a_field, a_spread, an_inline, an_unknown}
-use Rattle.introspection.proofs.Walk.{mark_there, mark_kept, spread_undefined, again-deep, again-level, spread-stopped, spread-met}
+use Rattle.introspection.proofs.Walk.{mark_there, mark_kept, spread_undefined, again_deep, again_level, spread_stopped, spread_met}
 use Rattle.introspection.proofs.Walk.{set_full, set_begin, going_again, set_stopped, set_ended}
 use Rattle.introspection.proofs.max_depth.+check_child_set_check_field_check_selection_check_selection_set_check_spread.Goals as goal
 
@@ -14,7 +14,7 @@ ruleset selected = (a_field, a_spread, an_inline, an_unknown, rules)
 
 ruleset sets = (walk_on, set_full, set_begin, going_again, set_stopped, set_ended, rules)
 
-ruleset spreads = (mark_there, mark_kept, spread_undefined, again-deep, again-level, spread-stopped, spread-met, rules)
+ruleset spreads = (mark_there, mark_kept, spread_undefined, again_deep, again_level, spread_stopped, spread_met, rules)
 
 pub check_child_set-returns-then-set-eq0 : goal.check_child_set-returns-then-set-eq0
 check_child_set-returns-then-set-eq0 t c = search childs

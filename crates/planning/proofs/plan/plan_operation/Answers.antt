@@ -1,5 +1,5 @@
 -- What is collected of the operation's set is put; where collecting stops, nothing is. Assumes nothing.
-use Rattle.planning.proofs.Alone.{operation_gathering, alone_puttable, alone_far, alone_many, alone-made}
+use Rattle.planning.proofs.Alone.{operation_gathering, alone_puttable, alone_far, alone_many, alone_made}
 use borrow.Author.Rules.{rules}
 use Rattle.planning.proofs.plan.plan_operation.Goals as goal
 
@@ -16,4 +16,4 @@ pub returns-in-TooManyFields : goal.returns-in-TooManyFields
 returns-in-TooManyFields c = search (alone_many, c.requires, operation_gathering c.collect_operation-collecting.ensures (search rules), rules)
 
 pub returns-in-On : goal.returns-in-On
-returns-in-On c = search (alone-made, c.requires, operation_gathering c.collect_operation-collecting.ensures (search rules), c.plan_set.ensures, rules)
+returns-in-On c = search (alone_made, c.requires, operation_gathering c.collect_operation-collecting.ensures (search rules), c.plan_set.ensures, rules)

@@ -1,9 +1,9 @@
 -- It is too far down, skipped, an error, or a value behind its comma. Assumes nothing.
-use Rattle.resolving.proofs.ItemSteps.{item_completable, item_full, item-skip, item-fails, item-given}
+use Rattle.resolving.proofs.ItemSteps.{item_completable, item_full, item_skip, item_fails, item_given}
 use borrow.Author.Rules.{rules}
 use Rattle.resolving.proofs.field.complete_item.Goals as goal
 
-ruleset itemizing = (item_full, item-skip, item-fails, rules)
+ruleset itemizing = (item_full, item_skip, item_fails, rules)
 
 pub returns-then-path-ge-MOST_SEGMENTS : goal.returns-then-path-ge-MOST_SEGMENTS
 returns-then-path-ge-MOST_SEGMENTS c = search itemizing
@@ -21,4 +21,4 @@ pub returns-in-Error : goal.returns-in-Error
 returns-in-Error c = search itemizing
 
 pub returns-in-Given : goal.returns-in-Given
-returns-in-Given c = item-given c.index_segment-last.result c.if-path-ge-MOST_SEGMENTS.false c.index_segment-last.ensures c.resolve_row.ensures c.requires.itemizable c.in-Given.is c.is_non_null.ensures c.put.ensures.wrote c.moved-open.ensures c.complete_value.ensures
+returns-in-Given c = item_given c.index_segment-last.result c.if-path-ge-MOST_SEGMENTS.false c.index_segment-last.ensures c.resolve_row.ensures c.requires.itemizable c.in-Given.is c.is_non_null.ensures c.put.ensures.wrote c.moved-open.ensures c.complete_value.ensures
