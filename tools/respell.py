@@ -183,7 +183,8 @@ def main(argv):
         for a, b in sorted(new.items()):
             print(a + "\t" + b)
         return 0
-    first()
+    if "fieldRow" in new:  # the names of FIRST are still those that port.py gave
+        first()
     for kind, turn in ((".antt", antt), (".rt", rt), (".edit", edit)):
         for p in files(kind):
             t = open(p, encoding="utf-8").read()

@@ -10,7 +10,7 @@ use Rattle.rows.specs.declared.layout.Optional.{Optional}
 use Rattle.rows.specs.declared.layout.Optional.TheVariants.{Absent, Row}
 use Rattle.graphql.specs.Lookup.{rows_in, field_named}
 use Rattle.graphql.specs.Coerce.{unknown_key}
-use Rattle.lookup.specs.Found.{row_of, is_found_lem}
+use Rattle.lookup.specs.Found.{row_of, is_found}
 use Rattle.lookup.proofs.Searching.{Seeking, seek_begin, seek_next, seek_found, seek_none}
 use Rattle.input_coercion.proofs.Leaves.{not_found, is_found_lem}
 
@@ -26,11 +26,11 @@ module _ (types fields literals : List ℕ) (type : ℕ) (given : Range) {i : �
     pub key_next : {row : ℕ} → found ≡ Row row → Seeking (unknown types fields literals type) given (i + 1)
     key_next {row} h = seek_next (unknown types fields literals type) given s l (ap {B = Bool} (λ (o : Option ℕ). elim o [ none ↦ true | some f ↦ false ]) (let w : field ≡ some row = rw k at (is_found_lem (field_named types fields type key) e h) in w))
 
-    pub key_unknown : found ≡ Absent → true ≡ is_found_lem (unknown_key types fields literals type (rows_in given))
+    pub key_unknown : found ≡ Absent → true ≡ is_found (unknown_key types fields literals type (rows_in given))
     unfolding unknown_key
     key_unknown h = rw (seek_found (unknown types fields literals type) given s l (ap {B = Bool} (λ (o : Option ℕ). elim o [ none ↦ true | some f ↦ false ]) (let w : field ≡ none = rw k at (not_found (field_named types fields type key) e h) in w)))
 
-  pub keys_known : given.count ≤ i → false ≡ is_found_lem (unknown_key types fields literals type (rows_in given))
+  pub keys_known : given.count ≤ i → false ≡ is_found (unknown_key types fields literals type (rows_in given))
   unfolding unknown_key
   keys_known l = rw (seek_none (unknown types fields literals type) given s l)
 

@@ -27,7 +27,7 @@ use Rattle.graphql.specs.Json.{null}
 use Rattle.graphql.specs.Lookup.{rows_in, non_null, type_named}
 use Rattle.graphql.specs.Values.{literal_form}
 use Rattle.graphql.specs.Coerce.{is_input_object, unknown_key, known_object, input_object, coerce_named, coerce_shape, coerce_literal, coerce_argument_value}
-use Rattle.lookup.specs.Found.{row_of, is_found_lem}
+use Rattle.lookup.specs.Found.{row_of, is_found}
 use Rattle.input_coercion.specs.Ends.{literal_fails, Ends, Checks}
 use Rattle.input_coercion.specs.Coerced.{FormAt, Listable, ItemsAt, Coercible, inside, of_part, of_value, of_variable, of_items, of_fields, of_object, of_named, of_shape, ChecksInner}
 use Rattle.input_coercion.specs.declared.check.Coercion.{Coercion}
@@ -64,11 +64,11 @@ module _ {types nodes literals variables : List ℕ} (w : Coercible types nodes 
 
 -- ---- whether a key is unknown
 
-all_known : (o : Option ℕ) → false ≡ is_found_lem o → o ≡ none
+all_known : (o : Option ℕ) → false ≡ is_found o → o ≡ none
 all_known none h = refl
 all_known (some key) h = absurd (let z : ◌≡◌ {A = ℕ} 0 1 = cc in omega arith)
 
-one_unknown : (o : Option ℕ) → true ≡ is_found_lem o → (key : ℕ) × (o ≡ some key)
+one_unknown : (o : Option ℕ) → true ≡ is_found o → (key : ℕ) × (o ≡ some key)
 one_unknown none h = absurd (let z : ◌≡◌ {A = ℕ} 0 1 = cc in omega arith)
 one_unknown (some key) h = (key, refl)
 
@@ -105,7 +105,7 @@ module _ (refs types fields nodes literals variables : List ℕ) (room : ℕ) wh
         go pool names p (shape.Listed rows) o = fails literals error.CannotCoerce row p refl
         go pool names p (shape.Keyed rows) o = absurd (miss unkeyed 2 tt (opened o))
 
-    module _ {given : Range} {b : Bool} (h : s ≡ shape.Keyed given) (e : b ≡ is_found_lem (unknown_key types fields literals type (rows_in given))) where
+    module _ {given : Range} {b : Bool} (h : s ≡ shape.Keyed given) (e : b ≡ is_found (unknown_key types fields literals type (rows_in given))) where
       pub object_unknown : {r : Coercion} → b ≡ true → r ≡ literal_fails literals error.UnknownKey row
           → Checks (of_object refs types fields nodes literals variables room type row s) r
       unfolding of_object input_object known_object place_of

@@ -10,10 +10,10 @@ use Rattle.rows.specs.Limits.{least_names, most_names, most_selections}
 use Rattle.rows.specs.Rows.{all, rows_of}
 use Rattle.rules.specs.Rows.{counted}
 use Rattle.rules.specs.Names.{name_spelled, name_reserved}
-use Rattle.rules.specs.Schema.{type_row_lem, type_parts, field_row_lem, fields_differ, arguments_differ, root_type}
+use Rattle.rules.specs.Schema.{type_row, type_parts, field_row, fields_differ, arguments_differ, root_type}
 use Rattle.rules.specs.Document.{set_row, selection_row, given_differ, child_sets_larger, selection_owns_alone, fragment_owns_alone}
-use Rattle.rules.specs.Json.{node_row_lem, node_key_row, node_keys_differ, literal_row, literal_keys_differ}
-use Rattle.rules.specs.Answers.{answer_row, answer_names_differ, root_answer_lem}
+use Rattle.rules.specs.Json.{node_row, node_key_row, node_keys_differ, literal_row, literal_keys_differ}
+use Rattle.rules.specs.Answers.{answer_row, answer_names_differ, root_answer}
 use Rattle.tables.specs.Tables.{Tables, name_count, ref_count, type_count, member_count, field_count, argument_count, set_count, selection_count, given_count, fragment_count, node_count, literal_count, answer_count}
 use Rattle.tables.specs.Rules.{size_holds, obeyed, rows_lawful}
 use Rattle.tables.specs.ByTable.{conj, schema_sizes, document_sizes, values_sizes, name_holds, field_holds, type_holds, selection_holds, set_holds, node_holds, literal_holds, schema_tests, document_tests, values_tests, by_table}
@@ -116,10 +116,10 @@ module _ (T : Tables) where
     values_at k =
         conj_at values_all k (and_right (conj document_all) (conj values_all) (and_right (conj schema_all) (conj document_all && conj values_all) held))
 
-    types_1 : all (λ row. type_row_lem (name_count T) (member_count T) (field_count T) T.types row && type_parts T.types row) (type_count T) ≡ true
+    types_1 : all (λ row. type_row (name_count T) (member_count T) (field_count T) T.types row && type_parts T.types row) (type_count T) ≡ true
     unfolding type_holds
     types_1 =
-        all_left (λ row. type_row_lem (name_count T) (member_count T) (field_count T) T.types row && type_parts T.types row) (fields_differ T.types T.fields)
+        all_left (λ row. type_row (name_count T) (member_count T) (field_count T) T.types row && type_parts T.types row) (fields_differ T.types T.fields)
         (type_count T) (schema_at 6)
 
     -- each rule by itself
@@ -148,17 +148,17 @@ module _ (T : Tables) where
     each_obeyed (Schema schema.Member) = schema_at 3
     each_obeyed (Schema schema.ArgumentRow) = schema_at 4
     each_obeyed (Schema schema.FieldRow) =
-        all_left (field_row_lem (name_count T) (ref_count T) (argument_count T) (literal_count T) T.fields) (arguments_differ T.fields T.arguments)
+        all_left (field_row (name_count T) (ref_count T) (argument_count T) (literal_count T) T.fields) (arguments_differ T.fields T.arguments)
         (field_count T) (schema_at 5)
     each_obeyed (Schema schema.ArgumentNamesDiffer) =
-        all_right (field_row_lem (name_count T) (ref_count T) (argument_count T) (literal_count T) T.fields) (arguments_differ T.fields T.arguments)
+        all_right (field_row (name_count T) (ref_count T) (argument_count T) (literal_count T) T.fields) (arguments_differ T.fields T.arguments)
         (field_count T) (schema_at 5)
     each_obeyed (Schema schema.TypeRow) =
-        all_left (type_row_lem (name_count T) (member_count T) (field_count T) T.types) (type_parts T.types) (type_count T) types_1
+        all_left (type_row (name_count T) (member_count T) (field_count T) T.types) (type_parts T.types) (type_count T) types_1
     each_obeyed (Schema schema.TypeParts) =
-        all_right (type_row_lem (name_count T) (member_count T) (field_count T) T.types) (type_parts T.types) (type_count T) types_1
+        all_right (type_row (name_count T) (member_count T) (field_count T) T.types) (type_parts T.types) (type_count T) types_1
     each_obeyed (Schema schema.FieldNamesDiffer) =
-        all_right (λ row. type_row_lem (name_count T) (member_count T) (field_count T) T.types row && type_parts T.types row) (fields_differ T.types T.fields)
+        all_right (λ row. type_row (name_count T) (member_count T) (field_count T) T.types row && type_parts T.types row) (fields_differ T.types T.fields)
         (type_count T) (schema_at 6)
     each_obeyed (Schema schema.TypeNamesDiffer) = schema_at 7
     each_obeyed (Schema schema.RootType) = once_obeyed (root_type T.types T.root) (schema_at 8)
@@ -178,9 +178,9 @@ module _ (T : Tables) where
     each_obeyed (Document document.ChildSetsLarger) =
         all_right (set_row (selection_count T) T.sets) (child_sets_larger T.sets T.selections) (set_count T) (document_at 5)
     each_obeyed (Value value.NodeRow) =
-        all_right (node_key_row T.pool T.nodes) (node_row_lem T.pool (node_count T) T.nodes) (node_count T) (and_left nodes_1 nodes_2 (values_at 0))
+        all_right (node_key_row T.pool T.nodes) (node_row T.pool (node_count T) T.nodes) (node_count T) (and_left nodes_1 nodes_2 (values_at 0))
     each_obeyed (Value value.NodeKey) =
-        all_left (node_key_row T.pool T.nodes) (node_row_lem T.pool (node_count T) T.nodes) (node_count T) (and_left nodes_1 nodes_2 (values_at 0))
+        all_left (node_key_row T.pool T.nodes) (node_row T.pool (node_count T) T.nodes) (node_count T) (and_left nodes_1 nodes_2 (values_at 0))
     each_obeyed (Value value.NodeKeysDiffer) = and_right nodes_1 nodes_2 (values_at 0)
     each_obeyed (Value value.LiteralRow) =
         all_left (literal_row T.pool (name_count T) (literal_count T) T.literals) (literal_keys_differ T.literals) (literal_count T) (values_at 1)
@@ -190,7 +190,7 @@ module _ (T : Tables) where
     each_obeyed (Value value.VariableNamesDiffer) = values_at 3
     each_obeyed (Value value.AnswerRow) = and_left answers_1 answers_2 (values_at 4)
     each_obeyed (Value value.AnswerNamesDiffer) = and_right answers_1 answers_2 (values_at 4)
-    each_obeyed (Value value.RootAnswer) = once_obeyed (root_answer_lem T.answers) (values_at 5)
+    each_obeyed (Value value.RootAnswer) = once_obeyed (root_answer T.answers) (values_at 5)
 
   -- and all rules together
   module _ (h : rows_lawful T ≡ true) where
@@ -205,9 +205,9 @@ module _ (T : Tables) where
     unfolding obeyed
     root_type_lem = all_at (λ row. root_type T.types T.root) 0 1 (omega arith) (o (Schema schema.RootType))
 
-    root_answer_lem : root_answer_lem T.answers ≡ true
+    root_answer_lem : root_answer T.answers ≡ true
     unfolding obeyed
-    root_answer_lem = all_at (λ row. root_answer_lem T.answers) 0 1 (omega arith) (o (Value value.RootAnswer))
+    root_answer_lem = all_at (λ row. root_answer T.answers) 0 1 (omega arith) (o (Value value.RootAnswer))
 
     schema_hold : conj schema_all ≡ true
     unfolding conj obeyed name_holds field_holds type_holds
@@ -218,11 +218,11 @@ module _ (T : Tables) where
         (and-true (o (Schema schema.Member))
         (and-true (o (Schema schema.ArgumentRow))
         (and-true
-        (all_both (field_row_lem (name_count T) (ref_count T) (argument_count T) (literal_count T) T.fields) (arguments_differ T.fields T.arguments) (field_count T)
+        (all_both (field_row (name_count T) (ref_count T) (argument_count T) (literal_count T) T.fields) (arguments_differ T.fields T.arguments) (field_count T)
         (o (Schema schema.FieldRow)) (o (Schema schema.ArgumentNamesDiffer)))
         (and-true
-        (all_both (λ row. type_row_lem (name_count T) (member_count T) (field_count T) T.types row && type_parts T.types row) (fields_differ T.types T.fields) (type_count T)
-        (all_both (type_row_lem (name_count T) (member_count T) (field_count T) T.types) (type_parts T.types) (type_count T) (o (Schema schema.TypeRow)) (o (Schema schema.TypeParts)))
+        (all_both (λ row. type_row (name_count T) (member_count T) (field_count T) T.types row && type_parts T.types row) (fields_differ T.types T.fields) (type_count T)
+        (all_both (type_row (name_count T) (member_count T) (field_count T) T.types) (type_parts T.types) (type_count T) (o (Schema schema.TypeRow)) (o (Schema schema.TypeParts)))
         (o (Schema schema.FieldNamesDiffer)))
         (and-true (o (Schema schema.TypeNamesDiffer)) root_type_lem)))))))
 
@@ -244,7 +244,7 @@ module _ (T : Tables) where
     values_hold =
         and-true
         (and-true
-        (all_both (node_key_row T.pool T.nodes) (node_row_lem T.pool (node_count T) T.nodes) (node_count T) (o (Value value.NodeKey)) (o (Value value.NodeRow)))
+        (all_both (node_key_row T.pool T.nodes) (node_row T.pool (node_count T) T.nodes) (node_count T) (o (Value value.NodeKey)) (o (Value value.NodeRow)))
         (o (Value value.NodeKeysDiffer)))
         (and-true
         (all_both (literal_row T.pool (name_count T) (literal_count T) T.literals) (literal_keys_differ T.literals) (literal_count T)

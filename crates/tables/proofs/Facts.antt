@@ -12,12 +12,12 @@ use Rattle.rows.specs.Limits.{most_bytes, least_names, most_names, most_type_ref
 use Rattle.rows.specs.Rows.{rows_of}
 use Rattle.rules.specs.Rows.{counted}
 use Rattle.rules.specs.Names.{name_spelled, name_reserved, name_new}
-use Rattle.rules.specs.Schema.{type_ref_row, type_row_lem, type_parts, type_name_new, member_row, field_row_lem, fields_differ, argument_row, arguments_differ, root_type}
+use Rattle.rules.specs.Schema.{type_ref_row, type_row, type_parts, type_name_new, member_row, field_row, fields_differ, argument_row, arguments_differ, root_type}
 use Rattle.rules.specs.Document.{set_row, selection_row, given_row, given_differ, fragment_row, fragment_name_new, child_sets_larger, selection_owns_alone, fragment_owns_alone}
-use Rattle.rules.specs.Json.{node_row_lem, node_key_row, node_keys_differ, literal_row, literal_keys_differ, variable_row, variable_name_new}
-use Rattle.rules.specs.Answers.{answer_row, answer_names_differ, root_answer_lem}
+use Rattle.rules.specs.Json.{node_row, node_key_row, node_keys_differ, literal_row, literal_keys_differ, variable_row, variable_name_new}
+use Rattle.rules.specs.Answers.{answer_row, answer_names_differ, root_answer}
 use Rattle.tables.specs.Tables.{Tables, name_count, ref_count, type_count, member_count, field_count, argument_count, set_count, selection_count, given_count, fragment_count, node_count, literal_count, variable_count, answer_count}
-use Rattle.tables.specs.Rules.{rows_lawful, rows_for, holds_at_lem}
+use Rattle.tables.specs.Rules.{rows_lawful, rows_for, holds_at}
 use Rattle.tables.specs.Defaults.{defaults_closed}
 use Rattle.tables.specs.Marking.{Nested, Defaulted}
 use Rattle.tables.specs.Lawful.{lawful}
@@ -63,7 +63,7 @@ unfolding lawful
 defaults_closed_lem T h = and_right (rows_lawful T) (defaults_closed T.fields T.arguments T.literals) h
 
 module _ (T : Tables) (h : lawful T ≡ true) where
-  holds : (r : Rule) (row : ℕ) → row < rows_for r T → holds_at_lem r T row ≡ true
+  holds : (r : Rule) (row : ℕ) → row < rows_for r T → holds_at r T row ≡ true
   holds = holds_at_lem T (rows_lawful_lem T h)
 
   -- how many rows there are
@@ -169,7 +169,7 @@ module _ (T : Tables) (h : lawful T ≡ true) where
   pub type_ref_row_lem : (row : ℕ) → row < ref_count T → type_ref_row (name_count T) T.refs row ≡ true
   type_ref_row_lem row l = holds (Schema schema.TypeReference) row l
 
-  pub type_row_lem : (row : ℕ) → row < type_count T → type_row_lem (name_count T) (member_count T) (field_count T) T.types row ≡ true
+  pub type_row_lem : (row : ℕ) → row < type_count T → type_row (name_count T) (member_count T) (field_count T) T.types row ≡ true
   type_row_lem row l = holds (Schema schema.TypeRow) row l
 
   pub type_parts_lem : (row : ℕ) → row < type_count T → type_parts T.types row ≡ true
@@ -181,7 +181,7 @@ module _ (T : Tables) (h : lawful T ≡ true) where
   pub member_row_lem : (row : ℕ) → row < member_count T → member_row (name_count T) T.members row ≡ true
   member_row_lem row l = holds (Schema schema.Member) row l
 
-  pub field_row_lem : (row : ℕ) → row < field_count T → field_row_lem (name_count T) (ref_count T) (argument_count T) (literal_count T) T.fields row ≡ true
+  pub field_row_lem : (row : ℕ) → row < field_count T → field_row (name_count T) (ref_count T) (argument_count T) (literal_count T) T.fields row ≡ true
   field_row_lem row l = holds (Schema schema.FieldRow) row l
 
   pub field_names_differ : (row : ℕ) → row < type_count T → fields_differ T.types T.fields row ≡ true
@@ -223,7 +223,7 @@ module _ (T : Tables) (h : lawful T ≡ true) where
   pub fragment_owns_alone_lem : (row : ℕ) → row < fragment_count T → fragment_owns_alone T.selections T.fragments row ≡ true
   fragment_owns_alone_lem row l = holds (Document document.FragmentOwnsAlone) row l
 
-  pub node_row_lem : (row : ℕ) → row < node_count T → node_row_lem T.pool (node_count T) T.nodes row ≡ true
+  pub node_row_lem : (row : ℕ) → row < node_count T → node_row T.pool (node_count T) T.nodes row ≡ true
   node_row_lem row l = holds (Value value.NodeRow) row l
 
   pub node_key_lem : (row : ℕ) → row < node_count T → node_key_row T.pool T.nodes row ≡ true
@@ -250,7 +250,7 @@ module _ (T : Tables) (h : lawful T ≡ true) where
   pub answer_names_differ_lem : (row : ℕ) → row < answer_count T → answer_names_differ T.answers row ≡ true
   answer_names_differ_lem row l = holds (Value value.AnswerNamesDiffer) row l
 
-  pub root_answer_lem : root_answer_lem T.answers ≡ true
+  pub root_answer_lem : root_answer T.answers ≡ true
   root_answer_lem = holds (Value value.RootAnswer) 0 (omega arith)
 
 -- what looking for variables in defaults rests on

@@ -8,7 +8,7 @@ use lib.ListN.{get_or-eq_default}
 use Rattle.rows.specs.Rows.{all}
 use Rattle.rules.specs.Json.{node_keys_differ}
 use Rattle.tables.specs.Tables.{Tables, node_count}
-use Rattle.tables.specs.Rules.{rules, rule_at, rows_for, holds_at_lem, obeyed, rows_lawful}
+use Rattle.tables.specs.Rules.{rules, rule_at, rows_for, holds_at, obeyed, rows_lawful}
 use Rattle.tables.specs.Defaults.{defaults_closed}
 use Rattle.tables.specs.Lawful.{lawful, table_code}
 use Rattle.tables.specs.declared.rule.Rule.{Rule}
@@ -34,9 +34,9 @@ module _ (T : Tables) where
     obeyed_at r = rw (numbered r) at (numbered_obeyed (number r))
 
     -- a rule holds at every row that it speaks of
-    pub holds_at_lem : (r : Rule) (row : ℕ) → row < rows_for r T → holds_at_lem r T row ≡ true
+    pub holds_at_lem : (r : Rule) (row : ℕ) → row < rows_for r T → holds_at r T row ≡ true
     unfolding obeyed
-    holds_at_lem r row l = all_at (holds_at_lem r T) row (rows_for r T) l (obeyed_at r)
+    holds_at_lem r row l = all_at (holds_at r T) row (rows_for r T) l (obeyed_at r)
 
   pub all_obeyed : ((r : Rule) → obeyed r T ≡ true) → rows_lawful T ≡ true
   unfolding rows_lawful

@@ -7,7 +7,7 @@ use lib.Dec.{eqb}
 use Rattle.rows.specs.Schema.{field_at, argument_at}
 use Rattle.rows.specs.Json.{literal_at, literal_key}
 use Rattle.rules.specs.Rows.{is_row, row_or_none, within}
-use Rattle.rules.specs.Schema.{argument_lawful, field_lawful, field_row_lem, argument_row}
+use Rattle.rules.specs.Schema.{argument_lawful, field_lawful, field_row, argument_row}
 use Rattle.rules.specs.Json.{literal_lawful, literal_row}
 use Rattle.tables.specs.Marking.{parts_later}
 use Rattle.rows.specs.declared.layout.Optional.{Optional}
@@ -50,6 +50,6 @@ of_field names refs arguments literals f e =
     of_argument_lem names refs literals f.name f.ty f.default
     (and_left (argument_lawful names refs literals f.name f.ty f.default) (within arguments f.arguments) rest)
 
-pub field_default_lem : (names refs arguments literals : ℕ) (fields : List ℕ) (row : ℕ) → field_row_lem names refs arguments literals fields row ≡ true
+pub field_default_lem : (names refs arguments literals : ℕ) (fields : List ℕ) (row : ℕ) → field_row names refs arguments literals fields row ≡ true
     → row_or_none literals (field_at fields row).default ≡ true
 field_default_lem names refs arguments literals fields row e = of_field names refs arguments literals (field_at fields row) e

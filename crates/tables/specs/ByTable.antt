@@ -5,10 +5,10 @@ use Rattle.rows.specs.Layout.{name_width, type_ref_width, type_width, member_wid
 use Rattle.rows.specs.Limits.{most_selections}
 use Rattle.rows.specs.Rows.{all, cell, rows_of}
 use Rattle.rules.specs.Names.{name_spelled, name_reserved, name_new}
-use Rattle.rules.specs.Schema.{type_ref_row, type_row_lem, type_parts, type_name_new, member_row, field_row_lem, fields_differ, argument_row, arguments_differ, root_type}
+use Rattle.rules.specs.Schema.{type_ref_row, type_row, type_parts, type_name_new, member_row, field_row, fields_differ, argument_row, arguments_differ, root_type}
 use Rattle.rules.specs.Document.{set_row, selection_row, given_row, given_differ, fragment_row, fragment_name_new, child_larger, child_sets_larger, selection_owns_alone, fragment_owns_alone}
-use Rattle.rules.specs.Json.{node_row_lem, node_key_row, node_keys_differ, literal_row, literal_keys_differ, variable_row, variable_name_new}
-use Rattle.rules.specs.Answers.{answer_row, answer_names_differ, root_answer_lem}
+use Rattle.rules.specs.Json.{node_row, node_key_row, node_keys_differ, literal_row, literal_keys_differ, variable_row, variable_name_new}
+use Rattle.rules.specs.Answers.{answer_row, answer_names_differ, root_answer}
 use Rattle.tables.specs.Tables.{Tables, name_count, ref_count, literal_count}
 use Rattle.tables.specs.Rules.{size_holds}
 use Rattle.tables.specs.declared.rule.SizeRule.TheVariants as size
@@ -37,11 +37,11 @@ name_holds pool names row = name_spelled pool names row && name_reserved pool na
 
 unfoldable pub field_holds : ℕ → ℕ → ℕ → List ℕ → List ℕ → ℕ → Bool
 field_holds names refs literals fields arguments row =
-    field_row_lem names refs (rows_of arguments argument_width) literals fields row && arguments_differ fields arguments row
+    field_row names refs (rows_of arguments argument_width) literals fields row && arguments_differ fields arguments row
 
 unfoldable pub type_holds : ℕ → ℕ → List ℕ → List ℕ → ℕ → Bool
 type_holds names members types fields row =
-    (type_row_lem names members (rows_of fields field_width) types row && type_parts types row) && fields_differ types fields row
+    (type_row names members (rows_of fields field_width) types row && type_parts types row) && fields_differ types fields row
 
 unfoldable pub selection_holds : ℕ → ℕ → ℕ → List ℕ → List ℕ → ℕ → Bool
 selection_holds names refs sets selections given row =
@@ -51,7 +51,7 @@ unfoldable pub set_holds : List ℕ → List ℕ → ℕ → Bool
 set_holds sets selections row = set_row (rows_of selections selection_width) sets row && child_sets_larger sets selections row
 
 unfoldable pub node_holds : List ℕ → ℕ → List ℕ → ℕ → Bool
-node_holds pool count nodes row = node_key_row pool nodes row && node_row_lem pool count nodes row
+node_holds pool count nodes row = node_key_row pool nodes row && node_row pool count nodes row
 
 unfoldable pub literal_holds : List ℕ → ℕ → ℕ → List ℕ → ℕ → Bool
 literal_holds pool names count literals row = literal_row pool names count literals row && literal_keys_differ literals row
@@ -87,7 +87,7 @@ values_tests pool names nodes literals variables answers =
     ∷ all (variable_row names (rows_of nodes node_width) variables) (rows_of variables variable_width)
     ∷ all (variable_name_new variables) (rows_of variables variable_width)
     ∷ (all (answer_row names (rows_of nodes node_width) (rows_of answers answer_width) answers) (rows_of answers answer_width) && all (answer_names_differ answers) (rows_of answers answer_width))
-    ∷ root_answer_lem answers
+    ∷ root_answer answers
     ∷ []
 
 -- Everything that the check looks at.

@@ -5,10 +5,10 @@ use Rattle.rows.specs.Limits.{most_bytes, least_names, most_names, most_type_ref
 use Rattle.rows.specs.Rows.{all}
 use Rattle.rules.specs.Rows.{counted}
 use Rattle.rules.specs.Names.{name_spelled, name_reserved, name_new}
-use Rattle.rules.specs.Schema.{type_ref_row, type_row_lem, type_parts, type_name_new, member_row, field_row_lem, fields_differ, argument_row, arguments_differ, root_type}
+use Rattle.rules.specs.Schema.{type_ref_row, type_row, type_parts, type_name_new, member_row, field_row, fields_differ, argument_row, arguments_differ, root_type}
 use Rattle.rules.specs.Document.{set_row, selection_row, given_row, given_differ, fragment_row, fragment_name_new, child_sets_larger, selection_owns_alone, fragment_owns_alone}
-use Rattle.rules.specs.Json.{node_row_lem, node_key_row, node_keys_differ, literal_row, literal_keys_differ, variable_row, variable_name_new}
-use Rattle.rules.specs.Answers.{answer_row, answer_names_differ, root_answer_lem}
+use Rattle.rules.specs.Json.{node_row, node_key_row, node_keys_differ, literal_row, literal_keys_differ, variable_row, variable_name_new}
+use Rattle.rules.specs.Answers.{answer_row, answer_names_differ, root_answer}
 use Rattle.tables.specs.Tables.{Tables, name_count, ref_count, type_count, member_count, field_count, argument_count, set_count, selection_count, given_count, fragment_count, node_count, literal_count, variable_count, answer_count}
 use Rattle.tables.specs.declared.rule.SizeRule.{SizeRule}
 use Rattle.tables.specs.declared.rule.SizeRule.TheVariants as size
@@ -73,7 +73,7 @@ schema_says schema.NamesDiffer T = each (name_count T) (name_new T.pool T.names)
 -- "named or list, each nullable or not; a list's inner row comes earlier"
 schema_says schema.TypeReference T = each (ref_count T) (type_ref_row (name_count T) T.refs)
 -- "A row number names a row that is there.": a type's name, its fields and its members
-schema_says schema.TypeRow T = each (type_count T) (type_row_lem (name_count T) (member_count T) (field_count T) T.types)
+schema_says schema.TypeRow T = each (type_count T) (type_row (name_count T) (member_count T) (field_count T) T.types)
 -- "scalar, enum, object, interface, union, input object, with values, fields, members or interfaces"
 schema_says schema.TypeParts T = each (type_count T) (type_parts T.types)
 -- "Types, .. distinct names"
@@ -81,7 +81,7 @@ schema_says schema.TypeNamesDiffer T = each (type_count T) (type_name_new T.type
 -- values, members and interfaces "go by name"
 schema_says schema.Member T = each (member_count T) (member_row (name_count T) T.members)
 -- "Fields .., with type reference, literal default or none, and place. Field names .., none is `__typename`"
-schema_says schema.FieldRow T = each (field_count T) (field_row_lem (name_count T) (ref_count T) (argument_count T) (literal_count T) T.fields)
+schema_says schema.FieldRow T = each (field_count T) (field_row (name_count T) (ref_count T) (argument_count T) (literal_count T) T.fields)
 -- "Field names are distinct within a type"
 schema_says schema.FieldNamesDiffer T = each (type_count T) (fields_differ T.types T.fields)
 -- "arguments .., with type reference, literal default or none, and place"
@@ -115,7 +115,7 @@ document_says document.FragmentOwnsAlone T = each (fragment_count T) (fragment_o
 -- JSON nodes, literals, variables, answers.
 abbrev pub value_says : ValueRule → Tables → Says
 -- "null, booleans, integer .., float .., string, array, object .. Children come later."
-value_says value.NodeRow T = each (node_count T) (node_row_lem T.pool (node_count T) T.nodes)
+value_says value.NodeRow T = each (node_count T) (node_row T.pool (node_count T) T.nodes)
 -- "each string valid UTF-8": a key too
 value_says value.NodeKey T = each (node_count T) (node_key_row T.pool T.nodes)
 -- "object with distinct keys"
@@ -133,7 +133,7 @@ value_says value.AnswerRow T = each (answer_count T) (answer_row (name_count T) 
 -- "a row for each field name answered, names distinct"
 value_says value.AnswerNamesDiffer T = each (answer_count T) (answer_names_differ T.answers)
 -- "The first is the root and is an object"
-value_says value.RootAnswer T = once (root_answer_lem T.answers)
+value_says value.RootAnswer T = once (root_answer T.answers)
 
 abbrev pub says : Rule → Tables → Says
 says (rule.Size r) T = once (size_holds r T)
@@ -144,12 +144,12 @@ says (rule.Value r) T = value_says r T
 abbrev pub rows_for : Rule → Tables → ℕ
 rows_for r T = (says r T).rows
 
-abbrev pub holds_at_lem : Rule → Tables → ℕ → Bool
-holds_at_lem r T row = (says r T).holds row
+abbrev pub holds_at : Rule → Tables → ℕ → Bool
+holds_at r T row = (says r T).holds row
 
 -- a rule is obeyed where it holds at every row that it speaks of
 unfoldable pub obeyed : Rule → Tables → Bool
-obeyed r T = all (holds_at_lem r T) (rows_for r T)
+obeyed r T = all (holds_at r T) (rows_for r T)
 
 -- every rule
 abbrev pub size_rules : List SizeRule
