@@ -46,7 +46,7 @@ def uncommented(t):
 def declared():
     camel, kebab, plain, where = set(), set(), set(), collections.defaultdict(set)
     for p in files(".antt"):
-        if os.path.basename(p) in ("Answers.antt", "Invariants.antt") and not p.endswith("proofs/Answers.antt"):
+        if "/proofs/" in p and os.path.basename(p) in ("Answers.antt", "Invariants.antt") and not p.endswith("proofs/Answers.antt"):
             continue
         walked = "/+" in p
         by_hand = p.endswith("/Proof.antt")
