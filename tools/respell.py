@@ -1,9 +1,10 @@
 #!/usr/bin/env python3
 """Brings the definitions and lemmas of crates/*/specs and crates/*/proofs to snake case, after port.py: usage: respell.py [--table]
 
-A name with a capital inside, as closedEnd, becomes closed_end. A dash stays between two of the library's words, as in take-drop, and behind a
-definition's name with a capital, as in allPlain-append; elsewhere it becomes _. A lemma that would have another's name gets _lem. Only names that the repository declares itself are turned, in .antt files, in the ghost
-lines and clauses of .rt files, and in comments; never a string, and no name of src/. --table prints old and new and writes nothing.
+A name with a capital inside, as closedEnd, becomes closed_end. A dash stays between two of the library's words, as in take-drop; elsewhere it becomes _.
+A lemma that would have another's name gets _lem. Only names that the repository declares itself are turned, in .antt files, in the ghost lines and
+clauses of .rt files, in the texts of edits, and in comments where they stand in backquotes; never a string, and no name of src/. --table prints old and
+new and writes nothing. It was run for the port that docs/PORT.md tells of, and has nothing to do since.
 """
 import os
 import re
