@@ -10,8 +10,7 @@ use denote.Enum.Declared.{tag_of}
 use Rattle.rows.specs.Limits.{most_rows}
 use Rattle.rows.specs.Schema.{type_at}
 use Rattle.rows.specs.Json.{node_at, variable_at}
-use Rattle.rows.specs.declared.layout.Optional.{Optional}
-use Rattle.rows.specs.declared.layout.Optional.TheVariants.{Absent, Row}
+use Rattle.std.specs.Prelude.{Option, Some, None}
 use Rattle.rows.specs.declared.json.VariableValue.{VariableValue}
 use Rattle.rows.specs.declared.json.Node.{Node}
 use Rattle.rows.specs.declared.json.Node.TheVariants as node
@@ -23,7 +22,6 @@ use Rattle.rows.specs.contracts.schema.TypeKind as kinds
 use Rattle.graphql.specs.Lookup.{type_named, lists, variable_named}
 use Rattle.graphql.specs.Values.{node_form}
 use Rattle.graphql.specs.Collect.{or_default, variable_holds, applies_by, does_fragment_type_apply}
-use Rattle.lookup.specs.Found.{row_of}
 use Rattle.lookup.proofs.Fragments.{found_none, found_some}
 use Rattle.lookup.specs.Found.{Listed}
 
@@ -44,12 +42,12 @@ no_boolean default (node.Array rows) o = refl
 no_boolean default (node.Object rows) o = refl
 no_boolean default node.Unknown o = refl
 
-module _ (variables nodes : List ℕ) (default : Bool) (name : ℕ) {found : Optional} (e : found ≡ row_of (variable_named variables name)) where
-  pub variable_absent : found ≡ Absent → default ≡ variable_holds variables nodes default (variable_named variables name)
+module _ (variables nodes : List ℕ) (default : Bool) (name : ℕ) {found : Option ℕ} (e : found ≡ (variable_named variables name)) where
+  pub variable_absent : found ≡ None → default ≡ variable_holds variables nodes default (variable_named variables name)
   unfolding variable_holds
   variable_absent h = rw (found_none (variable_named variables name) e h)
 
-  module _ {row : ℕ} (h : found ≡ Row row) {v : VariableValue} (read : v ≡ variable_at variables row) {n : Node} (value : n ≡ node_at nodes v.node) where
+  module _ {row : ℕ} (h : found ≡ Some row) {v : VariableValue} (read : v ≡ variable_at variables row) {n : Node} (value : n ≡ node_at nodes v.node) where
     by_node : variable_holds variables nodes default (variable_named variables name) ≡ or_default default (node_form n)
     unfolding variable_holds
     by_node = rw (found_some (variable_named variables name) e h, ← read, ← value)
@@ -74,12 +72,12 @@ members_few type h = h.within type
 abbrev neither : List ℕ
 neither = 0 ∷ 1 ∷ 5 ∷ 6 ∷ []
 
-module _ (types members : List ℕ) (object n : ℕ) {found : Optional} (e : found ≡ row_of (type_named types n)) where
-  pub no_type : found ≡ Absent → false ≡ does_fragment_type_apply types members object n
+module _ (types members : List ℕ) (object n : ℕ) {found : Option ℕ} (e : found ≡ (type_named types n)) where
+  pub no_type : found ≡ None → false ≡ does_fragment_type_apply types members object n
   unfolding does_fragment_type_apply
   no_type h = rw (found_none (type_named types n) e h, does_fragment_type_apply)
 
-  module _ {row : ℕ} (h : found ≡ Row row) {ty : TypeDef} (read : ty ≡ type_at types row) where
+  module _ {row : ℕ} (h : found ≡ Some row) {ty : TypeDef} (read : ty ≡ type_at types row) where
     by_kind : does_fragment_type_apply types members object n ≡ applies_by types members object n row ty.kind
     unfolding does_fragment_type_apply
     by_kind = rw (found_some (type_named types n) e h, does_fragment_type_apply, ← read)

@@ -2,7 +2,7 @@
 use mathlib.Core.Path.{◌≡◌, refl, ap, ◌∙◌}
 use mathlib.Core.Bool.{◌||◌}
 use mathlib.Core.List.{List, [], ◌∷◌, ◌++◌}
-use mathlib.Core.Option.{none, some}
+use Rattle.std.specs.Prelude.{Some, None}
 use Prim.Native.Nat.{ℕ, suc, ◌+◌, ◌≤◌, ◌<◌}
 use native.Mathlib.Decide.{dec_le}
 use native.Mathlib.Numerals.{add-one}
@@ -61,7 +61,7 @@ module _ (selections fragments : List ℕ) where
         go i h (no k) = rw (get_or-set_other list g.count i row 0 (λ e. omega arith)) (s.fields i (omega arith))
 
     -- a name that no fragment has needs no bit
-    pub shows_undefined : (name : ℕ) → fragment_named fragments name ≡ none → Shows selections fragments list g (visit name c)
+    pub shows_undefined : (name : ℕ) → fragment_named fragments name ≡ None → Shows selections fragments list g (visit name c)
     unfolding visit any
     shows_undefined name e = record {
       room = s.room;
@@ -73,7 +73,7 @@ module _ (selections fragments : List ℕ) where
     }
 
     -- one more fragment was visited
-    pub shows_visited : (name row bits : ℕ) → fragment_named fragments name ≡ some row
+    pub shows_visited : (name row bits : ℕ) → fragment_named fragments name ≡ Some row
         → ((other : ℕ) → is_marked other bits ≡ (eqb other row || is_marked other g.visited))
         → Shows selections fragments list (record { visited = bits; count = g.count }) (visit name c)
     unfolding visit any

@@ -2,7 +2,7 @@
 use mathlib.Core.Path.{◌≡◌, refl, sym, ◌∙◌}
 use mathlib.Core.Bool.{Bool, true, false, not, cond, ◌||◌}
 use mathlib.Core.List.{List}
-use mathlib.Core.Option.{some}
+use Rattle.std.specs.Prelude.{Option, Some, None}
 use Prim.Native.Nat.{ℕ, zero, suc, ◌+◌, ◌-◌, ◌≤◌, ◌<◌}
 use native.Mathlib.Nat.{add-zero, sub-zero}
 use native.Mathlib.Omega.{arith}
@@ -13,8 +13,6 @@ use Rattle.rows.specs.Limits.{most_selections, most_fragments}
 use Rattle.rows.specs.Rows.{cell}
 use Rattle.rows.specs.Document.{set_at, field_selection, spread_selection, inline_selection, selection_of, selection_at, fragment_at}
 use Rattle.rows.specs.declared.layout.Range.{Range}
-use Rattle.rows.specs.declared.layout.Optional.{Optional}
-use Rattle.rows.specs.declared.layout.Optional.TheVariants.{Absent, Row}
 use Rattle.rows.specs.declared.document.FieldSelection.{FieldSelection}
 use Rattle.rows.specs.declared.document.Selected.{Selected}
 use Rattle.rows.specs.declared.document.Selected.TheVariants.{Field, Spread, Inline, Unknown}
@@ -25,7 +23,6 @@ use Rattle.codes.specs.Outcome.{most_collected}
 use Rattle.graphql.specs.Run.{Choices, M, pure, halt, when, ◌>>=◌}
 use Rattle.graphql.specs.Lookup.{any, rows_from, rows_in, selections_of, fragment_named}
 use Rattle.graphql.specs.Collect.{Collected, visit, grouped, collect_field, holds, dropped, does_fragment_type_apply, inline_applies, enter_fragment, spread, collect_selected, collect_fields, collect_within}
-use Rattle.lookup.specs.Found.{row_of}
 use Rattle.lookup.proofs.Fragments.{found_none, found_some, row_below}
 use Rattle.collecting.specs.Visited.{is_marked}
 use Rattle.collecting.specs.Collecting.{Collectable, Shows, GoesOn, set_done, spread_done, inline_done, selection_done, rows_done, CollectsField, CollectsSet, CollectsSpread, CollectsInline, CollectsSelection, CollectsRows}
@@ -41,8 +38,8 @@ pub collect_on : {types sets fragments list list' : List ℕ} → Collectable ty
 collect_on w e = record { listed = w.listed; within = w.within; few = w.few; room = e ∙ w.room }
 
 -- a fragment that is there has a bit
-pub bit_there : {types sets fragments list : List ℕ} (name : ℕ) {found : Optional} {row : ℕ} → Collectable types sets fragments list
-    → found ≡ row_of (fragment_named fragments name) → found ≡ Row row → row < most_fragments
+pub bit_there : {types sets fragments list : List ℕ} (name : ℕ) {found : Option ℕ} {row : ℕ} → Collectable types sets fragments list
+    → found ≡ (fragment_named fragments name) → found ≡ Some row → row < most_fragments
 bit_there {fragments = fragments'} name {row = row'} w e h =
     omega (arith, row_below fragments' name row' (found_some (fragment_named fragments' name) e h), w.few)
 
@@ -90,7 +87,7 @@ field_is selections row f e = go (eqb (cell selections 10 row 0) 0) (eqb (cell s
 -- what the definition says of a fragment that was not visited before, and of a selection that is not dropped
 module _ (types members sets selections fragments nodes variables : List ℕ) (room object : ℕ) where
   entered : (name row : ℕ) {applies : Bool} {fragment : Fragment} (c : Collected) → any (λ v. eqb v name) c.visited ≡ false
-      → fragment_named fragments name ≡ some row → fragment ≡ fragment_at fragments row
+      → fragment_named fragments name ≡ Some row → fragment ≡ fragment_at fragments row
       → applies ≡ does_fragment_type_apply types members object fragment.condition
       → spread_done types members sets selections fragments nodes variables room object name c ≡ when applies (set_done types members sets selections fragments nodes variables room object fragment.set (visit name c)) (pure (visit name c))
   unfolding spread when enter_fragment
@@ -130,8 +127,8 @@ module _ (types members sets selections fragments nodes variables : List ℕ) (r
 
   -- ---- a spread
 
-  module _ (name : ℕ) {found : Optional} (e : found ≡ row_of (fragment_named fragments name)) where
-    pub spread_undefined : found ≡ Absent → CollectsSpread types members sets selections fragments nodes variables room object name list g (On g) list
+  module _ (name : ℕ) {found : Option ℕ} (e : found ≡ (fragment_named fragments name)) where
+    pub spread_undefined : found ≡ None → CollectsSpread types members sets selections fragments nodes variables room object name list g (On g) list
     unfolding spread when enter_fragment pure
     spread_undefined h = record { kept = refl; collects = λ c s. go c s (any (λ v. eqb v name) c.visited) refl }
       where
@@ -144,7 +141,7 @@ module _ (types members sets selections fragments nodes variables : List ℕ) (r
           shows = shows_undefined selections fragments s name (found_none (fragment_named fragments name) e h);
         }
 
-    module _ {row : ℕ} (h : found ≡ Row row) {seen : Bool} (m : seen ≡ is_marked row g.visited) where
+    module _ {row : ℕ} (h : found ≡ Some row) {seen : Bool} (m : seen ≡ is_marked row g.visited) where
       pub spread_again : seen ≡ true → CollectsSpread types members sets selections fragments nodes variables room object name list g (On g) list
       unfolding spread when
       spread_again t =
@@ -178,7 +175,7 @@ module _ (types members sets selections fragments nodes variables : List ℕ) (r
 
   -- ---- an inline fragment
 
-  module _ (type : Optional) (inner : ℕ) {applies : Bool} (does : applies ≡ inline_applies types members object type) where
+  module _ (type : Option ℕ) (inner : ℕ) {applies : Bool} (does : applies ≡ inline_applies types members object type) where
     pub inline_other : not applies ≡ true → CollectsInline types members sets selections fragments nodes variables room object type inner list g (On g) list
     unfolding when
     inline_other a =
@@ -218,7 +215,7 @@ module _ (types members sets selections fragments nodes variables : List ℕ) (r
       selection_spread {name = name'} w q =
           like selections fragments (selection_done types members sets selections fragments nodes variables room object row) (λ c. c) (spread_done types members sets selections fragments nodes variables room object name') (λ c s. (kept types members sets selections fragments nodes variables room object row e d n w c, s)) q
 
-      pub selection_inline : {type : Optional} {inner : ℕ} {r : Collecting} {list' : List ℕ} → s.what ≡ Inline type inner
+      pub selection_inline : {type : Option ℕ} {inner : ℕ} {r : Collecting} {list' : List ℕ} → s.what ≡ Inline type inner
           → CollectsInline types members sets selections fragments nodes variables room object type inner list g r list' → CollectsSelection types members sets selections fragments nodes variables room object row list g r list'
       unfolding collect_selected
       selection_inline {type = type'} {inner = inner'} w q =

@@ -1,12 +1,11 @@
 -- What the functions of CollectFields ensure, by its definition: a list of rows and the bits of a number stand for what was collected.
 use Rattle.std.specs.Prelude.{◌≡◌, List, [], ◌∷◌, ℕ, ◌+◌, ◌≤◌, ◌<◌, eqb, length, get_or, take}
-use Rattle.std.proofs.Math.Option.{some}
+use Rattle.std.specs.Prelude.{Option, Some}
 use Rattle.rows.specs.Layout.{fragment_width}
 use Rattle.rows.specs.Limits.{most_selections, most_fragments}
 use Rattle.rows.specs.Rows.{rows_of}
 use Rattle.rows.specs.Document.{set_at, field_selection, selection_at}
 use Rattle.rows.specs.declared.layout.Range.{Range}
-use Rattle.rows.specs.declared.layout.Optional.{Optional}
 use Rattle.rows.specs.declared.document.Selected.TheVariants.{Field}
 use Rattle.codes.specs.Outcome.{too_far, too_many_fields, most_collected}
 use Rattle.graphql.specs.Run.{Choices, M, stop, done, pure, when}
@@ -48,7 +47,7 @@ module _ (selections fragments : List ℕ) where
     pub counted : c.count ≡ g.count
     pub groups : c.groups ≡ groups_of selections [] (take g.count list)
     pub fields : (i : ℕ) → i < g.count → FieldRow selections (get_or list i 0)
-    pub marked : (name row : ℕ) → fragment_named fragments name ≡ some row → any (λ v. eqb v name) c.visited ≡ is_marked row g.visited
+    pub marked : (name row : ℕ) → fragment_named fragments name ≡ Some row → any (λ v. eqb v name) c.visited ≡ is_marked row g.visited
 
   -- it goes on with what the list and `g` stand for; nothing is logged, and no choice is read
   pub record GoesOn (m : M Collected) (g : Gathered) (list : List ℕ) : Type 0 where
@@ -92,7 +91,7 @@ module _ (types members sets selections fragments nodes variables : List ℕ) (r
   abbrev pub spread_done : ℕ → Collected → M Collected
   spread_done name = spread types members sets selections fragments variables nodes open' object name
 
-  abbrev pub inline_done : Optional → ℕ → Collected → M Collected
+  abbrev pub inline_done : Option ℕ → ℕ → Collected → M Collected
   inline_done condition set c = when (inline_applies types members object condition) (set_done set c) (pure c)
 
   abbrev pub selection_done : ℕ → Collected → M Collected
@@ -109,7 +108,7 @@ module _ (types members sets selections fragments nodes variables : List ℕ) (r
   abbrev pub CollectsSpread : (name : ℕ) (list : List ℕ) (g : Gathered) (r : Collecting) (list' : List ℕ) → Type 0
   CollectsSpread name list g r list' = Collects selections fragments (spread_done name) list g r list'
 
-  abbrev pub CollectsInline : (condition : Optional) (set : ℕ) (list : List ℕ) (g : Gathered) (r : Collecting) (list' : List ℕ) → Type 0
+  abbrev pub CollectsInline : (condition : Option ℕ) (set : ℕ) (list : List ℕ) (g : Gathered) (r : Collecting) (list' : List ℕ) → Type 0
   CollectsInline condition set list g r list' = Collects selections fragments (inline_done condition set) list g r list'
 
   abbrev pub CollectsSelection : (row : ℕ) (list : List ℕ) (g : Gathered) (r : Collecting) (list' : List ℕ) → Type 0

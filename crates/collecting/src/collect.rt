@@ -9,7 +9,7 @@ use crate::fragments::{does_fragment_type_apply, inline_applies};
 use crate::visited::{is_visited, with_visited};
 use lookup::named::fragment_named;
 use rows::document::{Selected, fragment_at, selection_at, set_at};
-use rows::layout::{Optional, Range};
+use rows::layout::Range;
 
 // "A 129th field is collected for one set" is code 4.
 pub const MOST_COLLECTED: usize = 128;
@@ -103,7 +103,7 @@ fn collect_spread(
     ensures { CollectsSpread types.now members.now sets.now selections.now fragments.now nodes.now variables.now room object name list.old gathered result list.new }
 {
     let found = fragment_named(fragments, name);
-    let Optional::Row(row) = found else {
+    let Some(row) = found else {
         return Collecting::On(gathered);
     };
     if is_visited(gathered.visited, row) {
@@ -144,7 +144,7 @@ fn collect_inline(
     variables: &[u32],
     list: &mut [u16],
     object: u32,
-    condition: Optional,
+    condition: Option<u32>,
     set: u32,
     room: u32,
     gathered: Gathered,

@@ -6,14 +6,13 @@ ghost use Rattle.graphql.specs.Collect.{variable_holds, holds};
 use lookup::named::variable_named;
 use rows::document::Condition;
 use rows::json::{Node, node_at, variable_at};
-use rows::layout::Optional;
 
 // "A variable that is absent or not boolean counts as no directive."
 fn variable_holds(variables: &[u32], nodes: &[u32], default: bool, name: u32) -> bool
     ensures { result ≡ variable_holds variables.now nodes.now default (variable_named variables.now name) }
 {
     let found = variable_named(variables, name);
-    let Optional::Row(row) = found else {
+    let Some(row) = found else {
         return default;
     };
     let variable = variable_at(variables, row);

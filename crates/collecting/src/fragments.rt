@@ -5,7 +5,6 @@ ghost use Rattle.graphql.specs.Collect.{does_fragment_type_apply, inline_applies
 ghost use Rattle.lookup.specs.Found.{Listed};
 
 use lookup::named::{lists_name, type_named};
-use rows::layout::Optional;
 use rows::schema::{TypeKind, type_at};
 
 fn type_name(types: &[u32], row: u32) -> u32
@@ -21,7 +20,7 @@ pub fn does_fragment_type_apply(types: &[u32], members: &[u32], object: u32, con
     ensures { result ≡ does_fragment_type_apply types.now members.now object condition }
 {
     let found = type_named(types, condition);
-    let Optional::Row(row) = found else {
+    let Some(row) = found else {
         return false;
     };
     let ty = type_at(types, row);
@@ -35,12 +34,12 @@ pub fn does_fragment_type_apply(types: &[u32], members: &[u32], object: u32, con
 }
 
 // An inline fragment with no type applies to all.
-pub fn inline_applies(types: &[u32], members: &[u32], object: u32, condition: Optional) -> bool
+pub fn inline_applies(types: &[u32], members: &[u32], object: u32, condition: Option<u32>) -> bool
     requires { Listed types.now }
     ensures { result ≡ inline_applies types.now members.now object condition }
 {
     match condition {
-        Optional::Absent => true,
-        Optional::Row(name) => does_fragment_type_apply(types, members, object, name),
+        None => true,
+        Some(name) => does_fragment_type_apply(types, members, object, name),
     }
 }

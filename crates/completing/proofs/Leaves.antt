@@ -2,7 +2,7 @@
 use mathlib.Core.Path.{◌≡◌, refl, sym, ◌∙◌}
 use mathlib.Core.Bool.{Bool, true, false, cond, decide}
 use mathlib.Core.List.{List, [], ◌∷◌}
-use mathlib.Core.Option.{some}
+use Rattle.std.specs.Prelude.{Some}
 use Prim.Native.Nat.{ℕ}
 use lib.Dec.{eqb}
 use borrow.Author.Tests.{ne_eqb}
@@ -101,7 +101,7 @@ module _ (pool names types members : List ℕ) {type : ℕ} {sort : Sort} {strin
     }
       where
         go : {Q : Request} {refs : List ℕ} → Lent Q pool names refs types members → (l : Leaf) → Shown l sort string → (g : Group) (p : Path)
-            → (b : List ℕ) × (string_of l.json ≡ some b) → leaf_at Q type kind.Enum l g p ≡ judged Q r l g p
+            → (b : List ℕ) × (string_of l.json ≡ Some b) → leaf_at Q type kind.Enum l g p ≡ judged Q r l g p
         go {Q} q l s g p (b, h) =
             let has : has_value Q.tables.pool Q.tables.names Q.tables.types Q.tables.members type string ≡ found
             = rw (q.of_pool, q.of_names, q.of_types, q.of_members) (sym f) in

@@ -2,7 +2,7 @@
 use mathlib.Core.Path.{◌≡◌, refl, sym, ap, ◌∙◌}
 use mathlib.Core.Bool.{Bool, true, false, cond, decide, not}
 use mathlib.Core.List.{List}
-use mathlib.Core.Option.{none, some}
+use Rattle.std.specs.Prelude.{Some, None}
 use Prim.Native.Nat.{ℕ}
 use native.Mathlib.Omega.{arith}
 use lib.Dec.{T, ltb, leb}
@@ -109,7 +109,7 @@ null_is (array s) e = absurd (let z : ◌≡◌ {A = ℕ} 0 1 = cc in omega arit
 null_is (object s) e = absurd (let z : ◌≡◌ {A = ℕ} 0 1 = cc in omega arith)
 
 -- the bytes of a string
-pub string_there : (j : Json) → is_a defined.a_string j ≡ true → (bytes : List ℕ) × (string_of j ≡ some bytes)
+pub string_there : (j : Json) → is_a defined.a_string j ≡ true → (bytes : List ℕ) × (string_of j ≡ Some bytes)
 unfolding is_a sort_of decide string_of
 string_there null e = absurd (let z : ◌≡◌ {A = ℕ} 0 1 = cc in omega arith)
 string_there (bool b) e = absurd (let z : ◌≡◌ {A = ℕ} 0 1 = cc in omega arith)
@@ -120,7 +120,7 @@ string_there (string s) e = (s, refl)
 string_there (array s) e = absurd (let z : ◌≡◌ {A = ℕ} 0 1 = cc in omega arith)
 string_there (object s) e = absurd (let z : ◌≡◌ {A = ℕ} 0 1 = cc in omega arith)
 
-pub string_gone : (j : Json) → is_a defined.a_string j ≡ false → string_of j ≡ none
+pub string_gone : (j : Json) → is_a defined.a_string j ≡ false → string_of j ≡ None
 unfolding is_a sort_of decide string_of
 string_gone null e = refl
 string_gone (bool b) e = refl

@@ -2,7 +2,7 @@
 use mathlib.Core.Path.{◌≡◌, refl, sym, ap, ◌∙◌}
 use mathlib.Core.Bool.{Bool, true, false, cond}
 use mathlib.Core.List.{List, [], ◌∷◌}
-use mathlib.Core.Option.{Option, none, some}
+use Rattle.std.specs.Prelude.{Option, Some, None}
 use Prim.Native.Nat.{ℕ}
 use native.Mathlib.Omega.{arith}
 use lib.Dec.{eqb}
@@ -10,8 +10,6 @@ use types.Run.{miss}
 use borrow.Enum.Refused.{Among, opened}
 use denote.Enum.Declared.{tag_of}
 use Rattle.rows.specs.Schema.{type_ref_at, type_at}
-use Rattle.rows.specs.declared.layout.Optional.{Optional}
-use Rattle.rows.specs.declared.layout.Optional.TheVariants.{Absent, Row}
 use Rattle.rows.specs.declared.schema.TypeRef.{TypeRef}
 use Rattle.rows.specs.declared.schema.TypeRef.TheVariants as ref
 use Rattle.rows.specs.declared.schema.TypeDef.{TypeDef}
@@ -26,7 +24,6 @@ use Rattle.graphql.specs.Lookup.{type_named, lists}
 use Rattle.graphql.specs.Collect.{Group}
 use Rattle.graphql.specs.Request.{Request}
 use Rattle.graphql.specs.Complete.{field_error, type_defined, named_type, object_named, resolve_abstract_type, object_type}
-use Rattle.lookup.specs.Found.{row_of}
 use Rattle.completing.specs.Judged.{Lent, typed, NamesType, NamesObject, ObjectType, TypesAt, TypesObject}
 use Rattle.completing.specs.declared.result_coercion.Typed.{Typed}
 use Rattle.completing.specs.declared.result_coercion.Typed.TheVariants as typing
@@ -34,13 +31,13 @@ use Rattle.completing.proofs.Binds.{pure_bind, error_bind}
 use Rattle.completing.proofs.Request.{lent_ref, lent_type, lent_named, lent_lists}
 
 -- how the code says what was found, heard back
-not_found : (o : Option ℕ) → Absent ≡ row_of o → o ≡ none
-not_found none e = refl
-not_found (some row) e = absurd (let z : ◌≡◌ {A = ℕ} 0 1 = cc in omega arith)
+not_found : (o : Option ℕ) → None ≡ o → o ≡ None
+not_found None e = refl
+not_found (Some row) e = absurd (let z : ◌≡◌ {A = ℕ} 0 1 = cc in omega arith)
 
-found : (o : Option ℕ) {row : ℕ} → Row row ≡ row_of o → o ≡ some row
-found none e = absurd (let z : ◌≡◌ {A = ℕ} 0 1 = cc in omega arith)
-found (some row') e = cc
+found : (o : Option ℕ) {row : ℕ} → Some row ≡ o → o ≡ Some row
+found None e = absurd (let z : ◌≡◌ {A = ℕ} 0 1 = cc in omega arith)
+found (Some row') e = cc
 
 -- ---- the type of a reference
 
@@ -53,12 +50,12 @@ module _ (refs types : List ℕ) {ty : ℕ} {x : TypeRef} (t : x ≡ type_ref_at
   unfolding named_type
   ref_unknown e = record { comes = λ q g p. rw (lent_ref q ty, ← t, e) }
 
-  module _ {name : ℕ} {nullable : Bool} (e : x ≡ ref.Named name nullable) {o : Optional} (n : o ≡ row_of (type_named types name)) where
-    pub ref_undefined : o ≡ Absent → NamesType refs types ty (typing.Error error.UndefinedType)
+  module _ {name : ℕ} {nullable : Bool} (e : x ≡ ref.Named name nullable) {o : Option ℕ} (n : o ≡ (type_named types name)) where
+    pub ref_undefined : o ≡ None → NamesType refs types ty (typing.Error error.UndefinedType)
     unfolding named_type type_defined
     ref_undefined a = record { comes = λ q g p. rw (lent_ref q ty, ← t, e, lent_named q name, not_found (type_named types name) (sym a ∙ n)) }
 
-    pub ref_defined : {row : ℕ} → o ≡ Row row → NamesType refs types ty (typing.Type row)
+    pub ref_defined : {row : ℕ} → o ≡ Some row → NamesType refs types ty (typing.Type row)
     unfolding named_type type_defined
     ref_defined a = record { comes = λ q g p. rw (lent_ref q ty, ← t, e, lent_named q name, found (type_named types name) (sym a ∙ n)) }
 
@@ -79,31 +76,31 @@ no_object kind.Unknown o = refl
 
 -- a type that was found, if it is an object type
 abbrev kept : Request → Option ℕ → Option ℕ
-kept Q o = elim o as (λ o. Option ℕ) [ none ↦ none | some type ↦ cond (object_kind (type_at Q.tables.types type).kind) (some type) none ]
+kept Q o = elim o as (λ o. Option ℕ) [ None ↦ None | Some type ↦ cond (object_kind (type_at Q.tables.types type).kind) (Some type) None ]
 
 module _ {Q : Request} {pool names refs types members : List ℕ} (q : Lent Q pool names refs types members) (name : ℕ) where
-  kept_none : type_named types name ≡ none → object_named Q name ≡ none
+  kept_none : type_named types name ≡ None → object_named Q name ≡ None
   unfolding object_named
   kept_none e = ap (kept Q) (lent_named q name ∙ e)
 
-  kept_some : (row : ℕ) {b : Bool} → type_named types name ≡ some row → object_kind (type_at types row).kind ≡ b
-      → object_named Q name ≡ cond b (some row) none
+  kept_some : (row : ℕ) {b : Bool} → type_named types name ≡ Some row → object_kind (type_at types row).kind ≡ b
+      → object_named Q name ≡ cond b (Some row) None
   unfolding object_named
   kept_some row e k =
       ap (kept Q) (lent_named q name ∙ e)
-      ∙ ap (λ d. cond (object_kind d.kind) (some row) none) (lent_type q row) ∙ ap (λ b. cond b (some row) none) k
+      ∙ ap (λ d. cond (object_kind d.kind) (Some row) None) (lent_type q row) ∙ ap (λ b. cond b (Some row) None) k
 
-module _ (types : List ℕ) {name : ℕ} {o : Optional} (n : o ≡ row_of (type_named types name)) where
-  pub object_absent : o ≡ Absent → NamesObject types name Absent
+module _ (types : List ℕ) {name : ℕ} {o : Option ℕ} (n : o ≡ (type_named types name)) where
+  pub object_absent : o ≡ None → NamesObject types name None
   object_absent a = record { finds = λ q. rw (kept_none q name (not_found (type_named types name) (sym a ∙ n))); object = tt }
 
-  module _ {row : ℕ} (f : o ≡ Row row) {d : TypeDef} (t : d ≡ type_at types row) where
-    pub object_there : d.kind ≡ kind.Object → NamesObject types name (Row row)
+  module _ {row : ℕ} (f : o ≡ Some row) {d : TypeDef} (t : d ≡ type_at types row) where
+    pub object_there : d.kind ≡ kind.Object → NamesObject types name (Some row)
     object_there k =
         let is : object_kind (type_at types row).kind ≡ true = rw (← t, k) in
         record { finds = λ q. rw (kept_some q name row (found (type_named types name) (sym f ∙ n)) is); object = is }
 
-    pub object_other : Among others (tag_of the_type d.kind) → NamesObject types name Absent
+    pub object_other : Among others (tag_of the_type d.kind) → NamesObject types name None
     object_other k =
         let is : object_kind (type_at types row).kind ≡ false = rw (← t) (no_object d.kind k) in
         record { finds = λ q. rw (kept_some q name row (found (type_named types name) (sym f ∙ n)) is); object = tt }
@@ -132,7 +129,7 @@ module _ (types members : List ℕ) {type name : ℕ} where
       object = rw h (object_if types type error.OtherObjectType (eqb name d.name) (rw (← t, k)));
     }
 
-    pub object_implements : {o : Optional} {object : ℕ} {ok : Bool} → NamesObject types name o → o ≡ Row object
+    pub object_implements : {o : Option ℕ} {object : ℕ} {ok : Bool} → NamesObject types name o → o ≡ Some object
         → ok ≡ lists types members object d.name
         → r ≡ cond ok (typing.Type object) (typing.Error error.NotImplementing) → TypesAt types members type kind.Interface name r
     unfolding object_type resolve_abstract_type
@@ -143,7 +140,7 @@ module _ (types members : List ℕ) {type name : ℕ} where
       object = rw h (object_if types object error.NotImplementing ok (rw e at n.object));
     }
 
-  pub object_member : {o : Optional} {object : ℕ} {ok : Bool} {r : Typed} → NamesObject types name o → o ≡ Row object
+  pub object_member : {o : Option ℕ} {object : ℕ} {ok : Bool} {r : Typed} → NamesObject types name o → o ≡ Some object
       → ok ≡ lists types members type name
       → r ≡ cond ok (typing.Type object) (typing.Error error.NotInUnion) → TypesAt types members type kind.Union name r
   unfolding object_type resolve_abstract_type
@@ -153,7 +150,7 @@ module _ (types members : List ℕ) {type name : ℕ} where
     object = rw h (object_if types object error.NotInUnion ok (rw e at n.object));
   }
 
-  module _ {o : Optional} (n : NamesObject types name o) (a : o ≡ Absent) where
+  module _ {o : Option ℕ} (n : NamesObject types name o) (a : o ≡ None) where
     pub interface_unknown : TypesAt types members type kind.Interface name (typing.Error error.ObjectTypeUnknown)
     unfolding object_type resolve_abstract_type
     interface_unknown = record { comes = λ q g p. rw (not_found (object_named _ name) (sym a ∙ n.finds q)); object = tt }

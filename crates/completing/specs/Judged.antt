@@ -2,11 +2,9 @@
 -- their answer, in every request that has the tables lent, for every leaf that looks so to the code, at every place.
 use Rattle.std.specs.Prelude.{◌≡◌, Bool, true, cond, ◌&&◌, ◌||◌, List, ℕ, eqb}
 use Rattle.std.proofs.Math.Bool.{decide}
-use Rattle.std.proofs.Math.Option.{some}
+use Rattle.std.specs.Prelude.{Option, Some, None}
 use Rattle.rows.specs.Names.{'Int}
 use Rattle.rows.specs.Schema.{type_ref_at, type_at}
-use Rattle.rows.specs.declared.layout.Optional.{Optional}
-use Rattle.rows.specs.declared.layout.Optional.TheVariants as optional
 use Rattle.rows.specs.declared.schema.TypeKind.{TypeKind}
 use Rattle.rules.specs.Schema.{object_kind}
 use Rattle.codes.specs.declared.errors.FieldError.TheVariants as error
@@ -20,7 +18,6 @@ use Rattle.graphql.specs.Complete.{Leaf, takes, field_error, named_type, leaf_at
 use Rattle.values.specs.Plain.{said}
 use Rattle.values.specs.declared.sort.Sort.{Sort}
 use Rattle.values.specs.declared.sort.Sort.TheVariants as sort
-use Rattle.lookup.specs.Found.{row_of}
 use Rattle.completing.specs.declared.result_coercion.Verdict.{Verdict}
 use Rattle.completing.specs.declared.result_coercion.Verdict.TheVariants as verdict
 use Rattle.completing.specs.declared.result_coercion.Typed.{Typed}
@@ -37,7 +34,7 @@ pub record Lent (Q : Request) (pool names refs types members : List ℕ) : Type 
 -- how a leaf looks to the code: its sort, and its bytes where it is a string
 pub record Shown (l : Leaf) (sort : Sort) (string : List ℕ) : Type 0 where
   pub sorted : said (sort_of l.json) ≡ sort
-  pub spelled : (s : List ℕ) → string_of l.json ≡ some s → s ≡ string
+  pub spelled : (s : List ℕ) → string_of l.json ≡ Some s → s ≡ string
 
 -- ---- What an answer says
 
@@ -106,13 +103,13 @@ pub record NamesType (refs types : List ℕ) (ty : ℕ) (r : Typed) : Type 0 whe
       → (g : Group) (p : Path) → named_type Q (type_ref_at Q.tables.refs ty) g p ≡ typed Q r g p
 
 -- a row that is there is an object type
-abbrev pub ObjectRow : (types : List ℕ) → Optional → Type 0
-ObjectRow types optional.Absent = Unit {0}
-ObjectRow types (optional.Row type) = object_kind (type_at types type).kind ≡ true
+abbrev pub ObjectRow : (types : List ℕ) → Option ℕ → Type 0
+ObjectRow types None = Unit {0}
+ObjectRow types (Some type) = object_kind (type_at types type).kind ≡ true
 
 -- the object type of this name
-pub record NamesObject (types : List ℕ) (name : ℕ) (r : Optional) : Type 0 where
-  pub finds : {Q : Request} {pool names refs members : List ℕ} → Lent Q pool names refs types members → r ≡ row_of (object_named Q name)
+pub record NamesObject (types : List ℕ) (name : ℕ) (r : Option ℕ) : Type 0 where
+  pub finds : {Q : Request} {pool names refs members : List ℕ} → Lent Q pool names refs types members → r ≡ (object_named Q name)
   pub object : ObjectRow types r
 
 -- a type that is told is an object type

@@ -13,7 +13,6 @@ ghost use Rattle.completing.specs.Judged.{NamesType, NamesObject, TypesAt, Types
 
 use codes::errors::FieldError;
 use lookup::named::{has_value, is_non_null, lists_name, type_named};
-use rows::layout::Optional;
 use rows::schema::{TypeKind, TypeRef, type_at, type_ref_at};
 use values::sort::Sort;
 
@@ -46,8 +45,8 @@ fn named_type(type_refs: &[u32], types: &[u32], ty: u32) -> Typed
 {
     match type_ref_at(type_refs, ty) {
         TypeRef::Named { name, nullable: _ } => match type_named(types, name) {
-            Optional::Absent => Typed::Error(FieldError::UndefinedType),
-            Optional::Row(row) => Typed::Type(row),
+            None => Typed::Error(FieldError::UndefinedType),
+            Some(row) => Typed::Type(row),
         },
         TypeRef::ListOf {
             inner: _,
@@ -205,17 +204,17 @@ pub fn judge_leaf(
 }
 
 // The object type of this name, if there is one.
-fn object_named(types: &[u32], name: u32) -> Optional
+fn object_named(types: &[u32], name: u32) -> Option<u32>
     ensures { NamesObject types.now name result }
 {
-    let Optional::Row(row) = type_named(types, name) else {
-        return Optional::Absent;
+    let Some(row) = type_named(types, name) else {
+        return None;
     };
     let def = type_at(types, row);
     let kind = def.kind;
     match kind {
-        TypeKind::Object => Optional::Row(row),
-        _ => Optional::Absent,
+        TypeKind::Object => Some(row),
+        _ => None,
     }
 }
 
@@ -233,7 +232,7 @@ fn implementing(types: &[u32], members: &[u32], ty: u32, name: u32) -> Typed
     requires { Listed types.now }
     ensures { TypesAt types.now members.now ty kind.Interface name result }
 {
-    let Optional::Row(object) = object_named(types, name) else {
+    let Some(object) = object_named(types, name) else {
         return Typed::Error(FieldError::ObjectTypeUnknown);
     };
     let def = type_at(types, ty);
@@ -249,7 +248,7 @@ fn member_of(types: &[u32], members: &[u32], ty: u32, name: u32) -> Typed
     requires { Listed types.now }
     ensures { TypesAt types.now members.now ty kind.Union name result }
 {
-    let Optional::Row(object) = object_named(types, name) else {
+    let Some(object) = object_named(types, name) else {
         return Typed::Error(FieldError::ObjectTypeUnknown);
     };
     object_if(

@@ -16,8 +16,7 @@ use Rattle.rows.specs.Rows.{all, cell, rows_of}
 use Rattle.rules.specs.Rows.{is_new}
 use Rattle.rows.specs.Document.{fragment_at}
 use Rattle.rules.specs.Document.{owned_set, owns_other, owned_nowhere, selection_owns_alone, fragment_owns_alone}
-use Rattle.rows.specs.declared.layout.Optional.{Optional}
-use Rattle.rows.specs.declared.layout.Optional.TheVariants.{Absent, Row}
+use Rattle.std.specs.Prelude.{Option, Some, None}
 use Rattle.rows.proofs.Every.{and-false, all_same}
 use Rattle.distinct.specs.Marks.{Marked, free_of_selections, free_of_fragments}
 
@@ -50,29 +49,29 @@ module _ (selections : List ℕ) where
   selections_first =
       marked_one (λ n. true) (free_of_selections selections 0) (replicate 4096 0) 0 all_free (omega arith) (λ n. and-true (not (eqb n 0)))
 
-  free_more : (row n : ℕ) (o : Optional) → owned_set selections row ≡ o
+  free_more : (row n : ℕ) (o : Option ℕ) → owned_set selections row ≡ o
       → free_of_selections selections (row + 1) n ≡ (free_of_selections selections row n && owns_other n o)
   unfolding free_of_selections owned_nowhere all
   free_more row n o e = rw (add-one, e) (sym (and_assoc (not (eqb n 0)) (owned_nowhere selections n row) (owns_other n o)))
 
   module _ (row : ℕ) (marks : List ℕ) (m : Marked (free_of_selections selections row) marks) where
     -- a selection that owns no set
-    pub selection_absent : owned_set selections row ≡ Absent → Marked (free_of_selections selections (row + 1)) marks
+    pub selection_absent : owned_set selections row ≡ None → Marked (free_of_selections selections (row + 1)) marks
     selection_absent e =
         marked_same (free_of_selections selections row) (free_of_selections selections (row + 1)) marks m
-        (λ n l. free_more row n Absent e ∙ and-true (free_of_selections selections row n))
+        (λ n l. free_more row n None e ∙ and-true (free_of_selections selections row n))
 
-    module _ (set : ℕ) (e : owned_set selections row ≡ Row set) where
+    module _ (set : ℕ) (e : owned_set selections row ≡ Some set) where
       -- one that owns a set without a mark
       pub selection_past : 4096 ≤ set → Marked (free_of_selections selections (row + 1)) marks
       selection_past h =
           marked_same (free_of_selections selections row) (free_of_selections selections (row + 1)) marks m
-          (λ n l. free_more row n (Row set) e ∙ (rw (ne_eqb n set (λ f. omega arith)) (and-true (free_of_selections selections row n))))
+          (λ n l. free_more row n (Some set) e ∙ (rw (ne_eqb n set (λ f. omega arith)) (and-true (free_of_selections selections row n))))
 
       -- and one whose set has a mark
       pub selection_marked : set < 4096 → Marked (free_of_selections selections (row + 1)) (ListN.set marks set 1)
       selection_marked h =
-          marked_one (free_of_selections selections row) (free_of_selections selections (row + 1)) marks set m h (λ n. free_more row n (Row set) e)
+          marked_one (free_of_selections selections row) (free_of_selections selections (row + 1)) marks set m h (λ n. free_more row n (Some set) e)
 
       pub selection_told : set < 4096 → eqb (get_or marks set 0) 0 ≡ selection_owns_alone selections row
       unfolding free_of_selections

@@ -7,7 +7,7 @@ ghost use Rattle.rules.specs.Document.{selection_owns_alone, fragment_owns_alone
 ghost use Rattle.distinct.specs.Marks.{Marked, free_of_selections, free_of_fragments};
 
 use rows::document::{FRAGMENT_WIDTH, SELECTION_WIDTH, fragment_at};
-use rows::layout::{Optional, row_count};
+use rows::layout::row_count;
 use rules::document::{fragment_owns_alone, owned_set, selection_owns_alone};
 
 // Whether a selection owns its set alone among those before it; marks the set.
@@ -17,7 +17,7 @@ fn selection_claims(selections: &[u32], row: u32, marks: &mut [u8]) -> bool
     ensures marked { Marked (free_of_selections selections.now (row + 1)) marks.new }
 {
     let owned = owned_set(selections, row as usize);
-    let Optional::Row(set) = owned else {
+    let Some(set) = owned else {
         return true;
     };
     if 4096 <= set {

@@ -1,7 +1,7 @@
 -- The items of a list and the fields of an input object: an opened container is made of its parts, one after another. Assumes nothing.
 use mathlib.Core.Path.{◌≡◌, refl}
 use mathlib.Core.List.{List, [], ◌∷◌, ◌++◌, map, append_assoc}
-use mathlib.Core.Option.{Option, none, some}
+use Rattle.std.specs.Prelude.{Option, Some, None}
 use Prim.Native.Nat.{ℕ, zero, suc, ◌+◌, ◌-◌, ◌≤◌, ◌<◌}
 use native.Mathlib.Omega.{arith}
 use lib.ListN.{length}
@@ -9,8 +9,6 @@ use Rattle.rows.specs.Limits.{most_fields}
 use Rattle.rows.specs.Names.{name_text}
 use Rattle.rows.specs.Schema.{field_at}
 use Rattle.rows.specs.declared.layout.Range.{Range}
-use Rattle.rows.specs.declared.layout.Optional.{Optional}
-use Rattle.rows.specs.declared.layout.Optional.TheVariants.{Absent, Row}
 use Rattle.rows.specs.declared.schema.Field.{Field}
 use Rattle.codes.specs.Outcome.{too_far}
 use Rattle.codes.specs.declared.errors.FieldError.TheVariants as error
@@ -22,7 +20,6 @@ use Rattle.graphql.specs.Json.{Json, array, object, items, members, print, print
 use Rattle.graphql.specs.Lookup.{rows_from, rows_in, non_null}
 use Rattle.graphql.specs.Values.{opened, part_by_part}
 use Rattle.graphql.specs.Coerce.{coerce_items, input_field, input_fields, coerce_argument_value}
-use Rattle.lookup.specs.Found.{row_of}
 use Rattle.input_coercion.specs.Coerced.{given_for, inside}
 use Rattle.input_coercion.proofs.Leaves.{not_found, is_found_lem}
 use Rattle.values.specs.declared.node.Put.{Put}
@@ -59,15 +56,15 @@ module _ (pool names fields : List ℕ) where
   members_deep [] [] e = refl
   members_deep [] (v ∷ vs) e = absurd (omega arith)
   members_deep (row ∷ rows) [] e = absurd (omega arith)
-  members_deep (row ∷ rows) (none ∷ vs) e = let n = members_deep rows vs (omega arith) in omega arith
-  members_deep (row ∷ rows) (some j ∷ vs) e = rw (members_deep rows vs (omega arith))
+  members_deep (row ∷ rows) (None ∷ vs) e = let n = members_deep rows vs (omega arith) in omega arith
+  members_deep (row ∷ rows) (Some j ∷ vs) e = rw (members_deep rows vs (omega arith))
 
   members_text : (rows : List ℕ) (vs : List (Option Json)) → print_members (members (map key rows) vs) ≡ outs (field_out pool names fields) rows vs
   unfolding print_members members outs field_out field_text field_label
   members_text [] vs = refl
   members_text (row ∷ rows) [] = refl
-  members_text (row ∷ rows) (none ∷ vs) = members_text rows vs
-  members_text (row ∷ rows) (some j ∷ vs) =
+  members_text (row ∷ rows) (None ∷ vs) = members_text rows vs
+  members_text (row ∷ rows) (Some j ∷ vs) =
       rw (
         append_assoc (quoted (key row)) (58 ∷ []) (print j),
         append_assoc (quoted (key row)) (58 ∷ print j) (outs (field_out pool names fields) rows vs),
@@ -133,11 +130,11 @@ module _ (pool names refs types fields nodes literals variables : List ℕ) wher
 
   -- ---- a field
 
-  module _ (room : ℕ) (given : List ℕ) (field : ℕ) {found : Optional} {def : Field} (e : found ≡ row_of (given_for fields literals given field))
+  module _ (room : ℕ) (given : List ℕ) (field : ℕ) {found : Option ℕ} {def : Field} (e : found ≡ (given_for fields literals given field))
       (d : def ≡ field_at fields field) {text : List ℕ} {at : ℕ} where
     module _ {text1 text2 : List ℕ} {value : ℕ} {r : Put}
         (w : Writes text text1 at value (field_label (name_text pool names (field_at fields field).name))) where
-      pub field_given : {literal : ℕ} → found ≡ Row literal
+      pub field_given : {literal : ℕ} → found ≡ Some literal
           → Echoes room (of_value pool names refs types fields nodes literals variables room def.ty literal) text1 value r text2
           → Shows field_size (field_out pool names fields field) room (of_field pool names refs types fields nodes literals variables room given field)
           text at r text2
@@ -147,12 +144,12 @@ module _ (pool names refs types fields nodes literals variables : List ℕ) wher
           record {
             long = o.long;
             shown = λ k v c.
-                let n = made (coerce_argument_value pool names refs types fields nodes literals variables room k.1 def.ty literal) some v
+                let n = made (coerce_argument_value pool names refs types fields nodes literals variables room k.1 def.ty literal) Some v
                 (rw (is_found_lem (given_for fields literals given field) e h, ← d) at c) in
                 rw (← n.is) (o.shown k.1 n.value n.first);
           }
 
-      pub field_default_lem : {default : ℕ} → found ≡ Absent → def.default ≡ Row default
+      pub field_default_lem : {default : ℕ} → found ≡ None → def.default ≡ Some default
           → Echoes room (of_part pool names literals room default) text1 value r text2
           → Shows field_size (field_out pool names fields field) room (of_field pool names refs types fields nodes literals variables room given field)
           text at r text2
@@ -163,19 +160,19 @@ module _ (pool names refs types fields nodes literals variables : List ℕ) wher
           record {
             long = o.long;
             shown = λ k v c.
-                let n = made (part_by_part pool names literals room default) some v
+                let n = made (part_by_part pool names literals room default) Some v
                 (rw (not_found (given_for fields literals given field) e h, ← d, u, s) at c) in
                 rw (← n.is) (o.shown k.1 n.value n.first);
           }
 
-    pub field_absent : found ≡ Absent → def.default ≡ Absent
+    pub field_absent : found ≡ None → def.default ≡ None
         → Shows field_size (field_out pool names fields field) room (of_field pool names refs types fields nodes literals variables room given field)
         text at (At at) text
     unfolding of_field input_field field_out field_text field_size
     field_absent h u = record {
       long = refl;
       shown = λ k v c.
-          let n = comes_pure (not_failed (non_null refs (field_at fields field).ty) literals error.MissingInputField k.0 k.1 (pure none)
+          let n = comes_pure (not_failed (non_null refs (field_at fields field).ty) literals error.MissingInputField k.0 k.1 (pure None)
           (rw u at (rw (not_found (given_for fields literals given field) e h, ← d) at c))) in
           rw (← n) (record { fits = λ l. record { end = at; is = refl; writes = stay text at }; full = λ l. absurd (omega arith) });
     }

@@ -1,7 +1,7 @@
 -- What is written without a look inside: a literal that converts part by part, a variable, the label of a field. Assumes nothing.
 use mathlib.Core.Path.{◌≡◌, refl}
 use mathlib.Core.List.{List, [], ◌∷◌}
-use mathlib.Core.Option.{Option, none, some}
+use Rattle.std.specs.Prelude.{Option, Some, None}
 use Prim.Native.Nat.{ℕ, suc}
 use native.Mathlib.Omega.{arith}
 use lib.ListN.{length}
@@ -13,8 +13,6 @@ use Rattle.rows.specs.Rows.{rows_of}
 use Rattle.rows.specs.Names.{name_text}
 use Rattle.rows.specs.Schema.{field_at}
 use Rattle.rows.specs.Json.{variable_at}
-use Rattle.rows.specs.declared.layout.Optional.{Optional}
-use Rattle.rows.specs.declared.layout.Optional.TheVariants.{Absent, Row}
 use Rattle.rows.specs.declared.schema.Field.{Field}
 use Rattle.rows.specs.declared.json.VariableValue.{VariableValue}
 use Rattle.codes.specs.declared.errors.FieldError.TheVariants as error
@@ -27,7 +25,6 @@ use Rattle.graphql.specs.Json.{Json, null, print, containers}
 use Rattle.graphql.specs.Lookup.{non_null, variable_named}
 use Rattle.graphql.specs.Values.{variable_value, part_by_part}
 use Rattle.graphql.specs.Coerce.{null_against, coerce_variable}
-use Rattle.lookup.specs.Found.{row_of}
 use Rattle.input_coercion.proofs.Leaves.{not_found, is_found_lem}
 use Rattle.values.specs.Put.{ended, Ends, Puts, PutsNode}
 use Rattle.values.specs.Room.{Within}
@@ -97,19 +94,19 @@ module _ {m : M Json} {text text' : List ℕ} {at : ℕ} {r : Put} (q : Puts m t
   puts_long = go q.value q.put
     where
       go : (v : Option Json) → Ends v text at r text' → length text' ≡ length text
-      go none put = put.long
-      go (some j) put = put.writes.wrote.long
+      go None put = put.long
+      go (Some j) put = put.writes.wrote.long
 
   pub within_shown : (room : ℕ) (j : Json) → Within room (containers j) j m → Shown room (containers j) (print j) text at r text'
   unfolding ended pure halt
   within_shown room j w = go q.value q.is q.put
     where
       go : (v : Option Json) → ((c : Choices) → m c ≡ ended v c) → Ends v text at r text' → Shown room (containers j) (print j) text at r text'
-      go none is put = record {
+      go None is put = record {
         fits = λ l. let here = is [] in let there = w.fits l [] in absurd (let z : ◌≡◌ {A = ℕ} 0 1 = cc in omega arith);
         full = λ l. put.is;
       }
-      go (some i) is put = record {
+      go (Some i) is put = record {
         fits = λ l.
             let here = is [] in
             let there = w.fits l [] in
@@ -120,9 +117,9 @@ module _ {m : M Json} {text text' : List ℕ} {at : ℕ} {r : Put} (q : Puts m t
 
 -- ---- a variable
 
-module _ (pool nodes variables : List ℕ) (room name : ℕ) {found : Optional} (e : found ≡ row_of (variable_named variables name)) {text text' : List ℕ}
+module _ (pool nodes variables : List ℕ) (room name : ℕ) {found : Option ℕ} (e : found ≡ (variable_named variables name)) {text text' : List ℕ}
     {at : ℕ} where
-  pub variable_none : {end : ℕ} → found ≡ Absent → Writes text text' at end null_name
+  pub variable_none : {end : ℕ} → found ≡ None → Writes text text' at end null_name
       → EchoesVariable pool nodes variables room name text at (At end) text'
   unfolding of_variable coerce_variable
   variable_none h w = record {
@@ -135,7 +132,7 @@ module _ (pool nodes variables : List ℕ) (room name : ℕ) {found : Optional} 
     };
   }
 
-  pub variable_some : {v : ℕ} {value : VariableValue} {r : Put} → found ≡ Row v → value ≡ variable_at variables v
+  pub variable_some : {v : ℕ} {value : VariableValue} {r : Put} → found ≡ Some v → value ≡ variable_at variables v
       → PutsNode pool nodes room value.node text at r text' → EchoesVariable pool nodes variables room name text at r text'
   unfolding of_variable coerce_variable variable_value
   variable_some {v} h k w = record {

@@ -2,7 +2,7 @@
 use mathlib.Core.Path.{◌≡◌, refl, sym, ap, ◌∙◌}
 use mathlib.Core.Bool.{Bool, true, false, cond}
 use mathlib.Core.List.{List, [], ◌∷◌, ◌++◌}
-use mathlib.Core.Option.{Option, none, some}
+use Rattle.std.specs.Prelude.{Option, Some, None}
 use Prim.Native.Nat.{ℕ, zero, suc, ◌+◌, ◌≤◌, ◌<◌}
 use native.Mathlib.Omega.{arith}
 use borrow.Author.Tests.{eq-eqb, ne_eqb, eqb-true, eqb-false}
@@ -14,8 +14,6 @@ use Rattle.rows.specs.Schema.{argument_at}
 use Rattle.rows.specs.Document.{given_at}
 use Rattle.rows.specs.Json.{literal_at, variable_at}
 use Rattle.rows.specs.declared.layout.Range.{Range}
-use Rattle.rows.specs.declared.layout.Optional.{Optional}
-use Rattle.rows.specs.declared.layout.Optional.TheVariants.{Absent, Row}
 use Rattle.rows.specs.declared.schema.Argument.{Argument}
 use Rattle.rows.specs.declared.json.VariableValue.{VariableValue}
 use Rattle.rows.specs.declared.document.Given.{Given}
@@ -27,7 +25,6 @@ use Rattle.graphql.specs.Json.{Json}
 use Rattle.graphql.specs.Lookup.{rows_from, rows_in, find, variable_named}
 use Rattle.graphql.specs.Values.{variable_value, part_by_part, LiteralForm, literal_form, null_given, variable, shaped}
 use Rattle.graphql.specs.Coerce.{Arguments, argument_named, argument_error, valued, default_argument, variable_argument, literal_argument, given_argument, coerce_argument, coerce_argument_value, coerce_argument_values}
-use Rattle.lookup.specs.Found.{row_of}
 use Rattle.input_coercion.specs.Coerced.{form_meant, FormAt, given_named}
 use Rattle.input_coercion.specs.declared.check.Form.{Form}
 use Rattle.input_coercion.specs.declared.check.Form.TheVariants as form
@@ -41,7 +38,7 @@ use Rattle.echoing.proofs.Comes.{comes_pure, made, More, comes_none, comes_more}
 
 -- ---- a search by name
 
-named_then : (n : ℕ) (a later : Arguments) → argument_named n later ≡ none → argument_named n (a ++ later) ≡ argument_named n a
+named_then : (n : ℕ) (a later : Arguments) → argument_named n later ≡ None → argument_named n (a ++ later) ≡ argument_named n a
 unfolding argument_named
 named_then n [] later e = e
 named_then n (x ∷ a) later e = rw (named_then n a later e)
@@ -57,7 +54,7 @@ passed_one : (label : ℕ) (j : Json) {a : Arguments} → (label, j) ∷ [] ≡ 
 unfolding argument_named
 passed_one label j e n d later = rw (← e, ne_eqb label n d)
 
-named_one : (label n : ℕ) → label ≡ n → (j : Json) {a : Arguments} → (label, j) ∷ [] ≡ a → argument_named n a ≡ some j
+named_one : (label n : ℕ) → label ≡ n → (j : Json) {a : Arguments} → (label, j) ∷ [] ≡ a → argument_named n a ≡ Some j
 unfolding argument_named
 named_one label n h j e = rw (← e, eq-eqb label n h)
 
@@ -67,18 +64,18 @@ module _ (label : ℕ → ℕ) (n : ℕ) where
 
   -- how the first of the rows is told
   data Told (row : ℕ) (rows : List ℕ) (o : Option ℕ) : Type 0 where
-    first : label row ≡ n → o ≡ some row → Told row rows o
+    first : label row ≡ n → o ≡ Some row → Told row rows o
     other : (label row ≡ n → ⊥) → find test rows ≡ o → Told row rows o
 
   told : (row : ℕ) (rows : List ℕ) (o : Option ℕ) → find test (row ∷ rows) ≡ o → Told row rows o
   unfolding find
   told row rows o e = go (eqb (label row) n) refl e
     where
-      go : (b : Bool) → eqb (label row) n ≡ b → cond b (some row) (find test rows) ≡ o → Told row rows o
+      go : (b : Bool) → eqb (label row) n ≡ b → cond b (Some row) (find test rows) ≡ o → Told row rows o
       go true h e = first (eqb-true (label row) n h) (sym e)
       go false h e = other (eqb-false (label row) n h) e
 
-  none_there : (row count : ℕ) → ((b : ℕ) → row ≤ b → b < row + count → label b ≡ n → ⊥) → find test (rows_from row count) ≡ none
+  none_there : (row count : ℕ) → ((b : ℕ) → row ≤ b → b < row + count → label b ≡ n → ⊥) → find test (rows_from row count) ≡ None
   unfolding find rows_from
   none_there row zero d = refl
   none_there row (suc count) d =
@@ -87,16 +84,16 @@ module _ (label : ℕ → ℕ) (n : ℕ) where
 
   module _ (run : ℕ → M Arguments) (pass : (row : ℕ) (a : Arguments) → Comes (run row) a → Passed (label row) a) (joined : List Arguments → Arguments)
       (joined_none : joined [] ≡ []) (joined_more : (a : Arguments) (rest : List Arguments) → joined (a ∷ rest) ≡ a ++ joined rest) where
-    none_named : (rows : List ℕ) (each : List Arguments) → find test rows ≡ none → Comes (in_order run rows) each → argument_named n (joined each)
-        ≡ none
+    none_named : (rows : List ℕ) (each : List Arguments) → find test rows ≡ None → Comes (in_order run rows) each → argument_named n (joined each)
+        ≡ None
     unfolding argument_named
     none_named [] each e q = rw (comes_none run q, joined_none)
     none_named (row ∷ rows) each e q =
         let m = comes_more run row rows q in
-        go m (λ i. none_named rows m.tail i m.there) (told row rows none e)
+        go m (λ i. none_named rows m.tail i m.there) (told row rows None e)
       where
-        go : (m : More run row rows each) → (find test rows ≡ none → argument_named n (joined m.tail) ≡ none) → Told row rows none
-            → argument_named n (joined each) ≡ none
+        go : (m : More run row rows each) → (find test rows ≡ None → argument_named n (joined m.tail) ≡ None) → Told row rows None
+            → argument_named n (joined each) ≡ None
         go m k (first h i) = absurd (let z : ◌≡◌ {A = ℕ} 0 1 = cc in omega arith)
         go m k (other d i) = rw (m.are, joined_more m.head m.tail) (pass row m.head m.here n d (joined m.tail) ∙ k i)
 
@@ -108,17 +105,17 @@ module _ (label : ℕ → ℕ) (n : ℕ) where
       pub is : argument_named n (joined each) ≡ argument_named n own
 
     chosen : (start count row : ℕ) (each : List Arguments) → ((a b : ℕ) → start ≤ a → a < b → b < start + count → label a ≡ label b → ⊥)
-        → find test (rows_from start count) ≡ some row → Comes (in_order run (rows_from start count)) each → Chosen row each
+        → find test (rows_from start count) ≡ Some row → Comes (in_order run (rows_from start count)) each → Chosen row each
     unfolding rows_from find
     chosen start zero row each d e q = absurd (let z : ◌≡◌ {A = ℕ} 0 1 = cc in omega arith)
     chosen start (suc count) row each d e q =
         let m = comes_more run start (rows_from (suc start) count) q in
         go m
         (λ i. chosen (suc start) count row m.tail (λ a b l k o. d a b (omega arith) k (omega arith)) i m.there)
-        (told start (rows_from (suc start) count) (some row) e)
+        (told start (rows_from (suc start) count) (Some row) e)
       where
-        go : (m : More run start (rows_from (suc start) count) each) → (find test (rows_from (suc start) count) ≡ some row → Chosen row m.tail)
-            → Told start (rows_from (suc start) count) (some row) → Chosen row each
+        go : (m : More run start (rows_from (suc start) count) each) → (find test (rows_from (suc start) count) ≡ Some row → Chosen row m.tail)
+            → Told start (rows_from (suc start) count) (Some row) → Chosen row each
         go m k (first h i) =
             let s : row ≡ start = cc in
             let later = none_there (suc start) count (λ b l u f. d start b (omega arith) (omega arith) (omega arith) (h ∙ sym f)) in
@@ -147,12 +144,12 @@ module _ (label : ℕ → ℕ) (n : ℕ) where
   module _ (run : ℕ → M Arguments) (pass : (row : ℕ) (a : Arguments) → Comes (run row) a → Passed (label row) a) (joined : List Arguments → Arguments)
       (start count : ℕ) (args : Arguments) (q : Comes (in_order run (rows_from start count) >>= λ each. pure (joined each)) args)
       (joined_none : joined [] ≡ []) (joined_more : (a : Arguments) (rest : List Arguments) → joined (a ∷ rest) ≡ a ++ joined rest) where
-    whole_none : find test (rows_from start count) ≡ none → argument_named n args ≡ none
+    whole_none : find test (rows_from start count) ≡ None → argument_named n args ≡ None
     whole_none e =
         let m = made (in_order run (rows_from start count)) joined args q in
         ap (argument_named n) (sym m.is) ∙ none_named run pass joined joined_none joined_more (rows_from start count) m.value e m.first
 
-    whole : (row : ℕ) → ((a b : ℕ) → start ≤ a → a < b → b < start + count → label a ≡ label b → ⊥) → find test (rows_from start count) ≡ some row
+    whole : (row : ℕ) → ((a b : ℕ) → start ≤ a → a < b → b < start + count → label a ≡ label b → ⊥) → find test (rows_from start count) ≡ Some row
         → Whole run row args
     whole row d e =
         let m = made (in_order run (rows_from start count)) joined args q in
@@ -185,17 +182,17 @@ module _ (pool names refs types fields nodes literals variables arguments given 
     passed_valued : (m : M Json) → Comes (valued pool names refs types fields nodes literals variables arguments given row m) a → Passed label a
     passed_valued m q = let v = is_valued m a q in passed_one label v.value v.is
 
-    passed_default : (o : Optional) → Comes (default_argument pool names refs types fields nodes literals variables arguments given p row o) a
+    passed_default : (o : Option ℕ) → Comes (default_argument pool names refs types fields nodes literals variables arguments given p row o) a
         → Passed label a
     unfolding default_argument
-    passed_default Absent q = passed_none label (comes_pure (no_error _ error.MissingArgument (pure []) q))
-    passed_default (Row d) q = passed_valued (part_by_part pool names literals most_open d) q
+    passed_default None q = passed_none label (comes_pure (no_error _ error.MissingArgument (pure []) q))
+    passed_default (Some d) q = passed_valued (part_by_part pool names literals most_open d) q
 
     passed_variable : (o : Option ℕ) → Comes (variable_argument pool names refs types fields nodes literals variables arguments given p row o) a
         → Passed label a
     unfolding variable_argument
-    passed_variable none q = passed_default (argument_at arguments row).default q
-    passed_variable (some v) q = passed_valued (variable_value pool nodes variables v) (no_error _ error.NullArgument _ q)
+    passed_variable None q = passed_default (argument_at arguments row).default q
+    passed_variable (Some v) q = passed_valued (variable_value pool nodes variables v) (no_error _ error.NullArgument _ q)
 
     abbrev literal : ℕ → M Json
     literal l = coerce_argument_value pool names refs types fields nodes literals variables most_open p (argument_at arguments row).ty l
@@ -210,8 +207,8 @@ module _ (pool names refs types fields nodes literals variables arguments given 
     passed_any : (o : Option ℕ) → Comes (coerce_argument pool names refs types fields nodes literals variables arguments given p row o) a
         → Passed label a
     unfolding coerce_argument
-    passed_any none q = passed_default (argument_at arguments row).default q
-    passed_any (some g) q = passed_given (given_at given g).literal (literal_form (literal_at literals (given_at given g).literal)) q
+    passed_any None q = passed_default (argument_at arguments row).default q
+    passed_any (Some g) q = passed_given (given_at given g).literal (literal_form (literal_at literals (given_at given g).literal)) q
 
     -- the argument of the name
     module _ (n : ℕ) (h : label ≡ n) where
@@ -221,18 +218,18 @@ module _ (pool names refs types fields nodes literals variables arguments given 
           let v = is_valued m a q in
           record { value = v.value; is = named_one label n h v.value v.is; comes = v.first }
 
-      default_stands : (o : Optional) → Comes (default_argument pool names refs types fields nodes literals variables arguments given p row o) a
+      default_stands : (o : Option ℕ) → Comes (default_argument pool names refs types fields nodes literals variables arguments given p row o) a
           → Stands pool names refs types fields nodes literals variables p (default_source o) (argument_named n a)
       unfolding default_argument default_source argument_named
-      default_stands Absent q = let e : ◌≡◌ {A = Arguments} [] a = comes_pure (no_error _ error.MissingArgument (pure []) q) in rw (← e)
-      default_stands (Row d) q = found_valued (part_by_part pool names literals most_open d) q
+      default_stands None q = let e : ◌≡◌ {A = Arguments} [] a = comes_pure (no_error _ error.MissingArgument (pure []) q) in rw (← e)
+      default_stands (Some d) q = found_valued (part_by_part pool names literals most_open d) q
 
       variable_stands : (o : Option ℕ) → Comes (variable_argument pool names refs types fields nodes literals variables arguments given p row o) a
           → Stands pool names refs types fields nodes literals variables p (variable_source variables (argument_at arguments row).default o)
           (argument_named n a)
       unfolding variable_argument variable_source variable_value
-      variable_stands none q = default_stands (argument_at arguments row).default q
-      variable_stands (some v) q = found_valued (variable_value pool nodes variables v) (no_error _ error.NullArgument _ q)
+      variable_stands None q = default_stands (argument_at arguments row).default q
+      variable_stands (Some v) q = found_valued (variable_value pool nodes variables v) (no_error _ error.NullArgument _ q)
 
 -- a form that is none of a variable
 no_variable : (f : Form) → Among (0 ∷ 2 ∷ []) (tag_of form_type f) → (x : ℕ) → form_meant f ≡ variable x → ⊥
@@ -256,32 +253,32 @@ module _ (arguments given literals variables : List ℕ) (definitions written : 
     passes row a c =
         passed_any pool names refs types fields nodes literals variables arguments given p row a (given_named given (labels row) (rows_in written)) c
 
-    nothing_named : definition_named arguments name (rows_in definitions) ≡ none → argument_named name args ≡ none
+    nothing_named : definition_named arguments name (rows_in definitions) ≡ None → argument_named name args ≡ None
     unfolding coerce_argument_values given_named definition_named rows_in
     nothing_named e = whole_none labels name each passes _ definitions.first definitions.count args q refl (λ a rest. refl) e
 
-    the_own : ArgumentsDiffer arguments definitions → (row : ℕ) → definition_named arguments name (rows_in definitions) ≡ some row
+    the_own : ArgumentsDiffer arguments definitions → (row : ℕ) → definition_named arguments name (rows_in definitions) ≡ Some row
         → Whole labels name each row args
     unfolding coerce_argument_values given_named definition_named rows_in
     the_own d row e = whole labels name each passes _ definitions.first definitions.count args q refl (λ a rest. refl) row d.differ e
 
-  module _ {found : Optional} (e : found ≡ row_of (definition_named arguments name (rows_in definitions))) where
-    pub source_unknown : found ≡ Absent → SourceOf arguments given literals variables definitions written name source.Absent
+  module _ {found : Option ℕ} (e : found ≡ (definition_named arguments name (rows_in definitions))) where
+    pub source_unknown : found ≡ None → SourceOf arguments given literals variables definitions written name source.Absent
     source_unknown h = record {
       stands = λ pool names refs types fields nodes p args q.
           nothing_named pool names refs types fields nodes p args q (not_found (definition_named arguments name (rows_in definitions)) e h);
     }
 
-    module _ (d : ArgumentsDiffer arguments definitions) {row : ℕ} (h : found ≡ Row row) where
+    module _ (d : ArgumentsDiffer arguments definitions) {row : ℕ} (h : found ≡ Some row) where
       own_of : (pool names refs types fields nodes : List ℕ) (p : Path) (args : Arguments)
           (q : Comes (coerce_argument_values pool names refs types fields nodes literals variables arguments given p definitions written) args)
           → Whole labels name (each pool names refs types fields nodes p args q) row args
       own_of pool names refs types fields nodes p args q =
           the_own pool names refs types fields nodes p args q d row (is_found_lem (definition_named arguments name (rows_in definitions)) e h)
 
-    module _ (d : ArgumentsDiffer arguments definitions) {row : ℕ} {argument : Argument} {there : Optional} (h : found ≡ Row row)
-        (a : argument ≡ argument_at arguments row) (g : there ≡ row_of (given_named given name (rows_in written))) where
-      pub source_default : {r : Source} → there ≡ Absent → r ≡ default_source argument.default
+    module _ (d : ArgumentsDiffer arguments definitions) {row : ℕ} {argument : Argument} {there : Option ℕ} (h : found ≡ Some row)
+        (a : argument ≡ argument_at arguments row) (g : there ≡ (given_named given name (rows_in written))) where
+      pub source_default : {r : Source} → there ≡ None → r ≡ default_source argument.default
           → SourceOf arguments given literals variables definitions written name r
       unfolding coerce_argument
       source_default n k = record {
@@ -293,7 +290,7 @@ module _ (arguments given literals variables : List ℕ) (definitions written : 
             (rw (c.labelled, not_found (given_named given name (rows_in written)) g n) at c.here));
       }
 
-      module _ {at : ℕ} {value : Given} {f : Form} (n : there ≡ Row at) (v : value ≡ given_at given at) (l : FormAt literals value.literal f) where
+      module _ {at : ℕ} {value : Given} {f : Form} (n : there ≡ Some at) (v : value ≡ given_at given at) (l : FormAt literals value.literal f) where
         pub source_variable : {r : Source} {x : ℕ} → f ≡ form.Variable x
             → r ≡ variable_source variables argument.default (variable_named variables x)
             → SourceOf arguments given literals variables definitions written name r
@@ -336,21 +333,21 @@ pub ruleset sourcing = (source_unknown, source_default, source_variable, source_
 
 -- ---- the small ones
 
-pub default_none : (o : Optional) → o ≡ Absent → source.Absent ≡ default_source o
+pub default_none : (o : Option ℕ) → o ≡ None → source.Absent ≡ default_source o
 unfolding default_source
 default_none o h = rw h
 
-pub default_some : (o : Optional) {row : ℕ} → o ≡ Row row → source.Default row ≡ default_source o
+pub default_some : (o : Option ℕ) {row : ℕ} → o ≡ Some row → source.Default row ≡ default_source o
 unfolding default_source
 default_some o h = rw h
 
-module _ (variables : List ℕ) (default : Optional) (name : ℕ) {found : Optional} (e : found ≡ row_of (variable_named variables name)) where
-  pub variable_default : {r : Source} → found ≡ Absent → r ≡ default_source default
+module _ (variables : List ℕ) (default : Option ℕ) (name : ℕ) {found : Option ℕ} (e : found ≡ (variable_named variables name)) where
+  pub variable_default : {r : Source} → found ≡ None → r ≡ default_source default
       → r ≡ variable_source variables default (variable_named variables name)
   unfolding variable_source
   variable_default h k = rw (not_found (variable_named variables name) e h, k)
 
-  pub variable_node : {v : ℕ} {value : VariableValue} → found ≡ Row v → value ≡ variable_at variables v
+  pub variable_node : {v : ℕ} {value : VariableValue} → found ≡ Some v → value ≡ variable_at variables v
       → source.Node value.node ≡ variable_source variables default (variable_named variables name)
   unfolding variable_source
   variable_node h k = rw (is_found_lem (variable_named variables name) e h, k)

@@ -2,7 +2,7 @@
 use mathlib.Core.Path.{◌≡◌, refl}
 use mathlib.Core.Bool.{Bool}
 use mathlib.Core.List.{List, [], ◌∷◌}
-use mathlib.Core.Option.{Option, none, some}
+use Rattle.std.specs.Prelude.{Option, Some, None}
 use Prim.Native.Nat.{ℕ, zero, suc}
 use types.Run.{miss}
 use borrow.Enum.Refused.{Among, opened, shut}
@@ -10,8 +10,6 @@ use denote.Enum.Declared.{tag_of}
 use Rattle.rows.specs.Schema.{type_ref_at, type_at}
 use Rattle.rows.specs.Json.{literal_at}
 use Rattle.rows.specs.declared.layout.Range.{Range}
-use Rattle.rows.specs.declared.layout.Optional.{Optional}
-use Rattle.rows.specs.declared.layout.Optional.TheVariants.{Absent, Row}
 use Rattle.rows.specs.declared.schema.TypeRef.{TypeRef}
 use Rattle.rows.specs.declared.schema.TypeRef.TheVariants as ref
 use Rattle.rows.specs.declared.schema.TypeKind.TheVariants as kind
@@ -25,7 +23,6 @@ use Rattle.graphql.specs.Json.{Json, null, print, containers}
 use Rattle.graphql.specs.Lookup.{rows_in, non_null, type_named}
 use Rattle.graphql.specs.Values.{literal_form}
 use Rattle.graphql.specs.Coerce.{is_input_object, unknown_key, known_object, input_object, coerce_named, coerce_shape, coerce_literal, coerce_argument_value}
-use Rattle.lookup.specs.Found.{row_of}
 use Rattle.input_coercion.specs.Coerced.{shape_meant, FormAt, ItemsAt, Coercible, inside}
 use Rattle.input_coercion.specs.declared.check.Shape.{Shape}
 use Rattle.input_coercion.specs.declared.check.Shape.TheVariants as shape
@@ -61,22 +58,22 @@ module _ (pool names refs types fields nodes literals variables : List ℕ) (roo
   -- ---- a named type
 
   -- what an object literal comes to where its type is an input object
-  as_object : (row : ℕ) (s : Shape) (name type : ℕ) {found : Optional} {def : TypeDef} → found ≡ row_of (type_named types name) → found ≡ Row type
+  as_object : (row : ℕ) (s : Shape) (name type : ℕ) {found : Option ℕ} {def : TypeDef} → found ≡ (type_named types name) → found ≡ Some type
       → def ≡ type_at types type → def.kind ≡ kind.InputObject → (p : Path) (j : Json)
       → Comes (of_named pool names refs types fields nodes literals variables room row s name p) j
       → Comes (input_object pool names refs types fields nodes literals variables room (deeper p) p type row (shape_meant s)) j
   unfolding of_named coerce_named when is_input_object
   as_object row s name type e h d k p j q = rw (is_found_lem (type_named types name) e h, ← d, k) at q
 
-  module _ (row : ℕ) (s : Shape) (name : ℕ) {found : Optional} (e : found ≡ row_of (type_named types name)) {text : List ℕ} {at : ℕ} where
-    pub named_undefined : found ≡ Absent
+  module _ (row : ℕ) (s : Shape) (name : ℕ) {found : Option ℕ} (e : found ≡ (type_named types name)) {text : List ℕ} {at : ℕ} where
+    pub named_undefined : found ≡ None
         → Echoes room (of_named pool names refs types fields nodes literals variables room row s name) text at TooFar text
     unfolding of_named coerce_named
     named_undefined h =
         never containers print room _ text at
         (λ p j q. comes_failed literals error.UndefinedInputType row p (rw (not_found (type_named types name) e h) at q))
 
-    module _ {type : ℕ} {def : TypeDef} (h : found ≡ Row type) (d : def ≡ type_at types type) where
+    module _ {type : ℕ} {def : TypeDef} (h : found ≡ Some type) (d : def ≡ type_at types type) where
       pub named_other : {r : Put} {text' : List ℕ} → Among other_kinds (tag_of kind_type def.kind)
           → Echoes room (of_part pool names literals room row) text at r text'
           → Echoes room (of_named pool names refs types fields nodes literals variables room row s name) text at r text'
@@ -110,8 +107,8 @@ module _ (pool names refs types fields nodes literals variables : List ℕ) (roo
           go : (p : Path) (j : Json) (o : Option ℕ)
               → Comes (known_object pool names refs types fields nodes literals variables room (deeper p) p type row (rows_in given) o) j
               → Comes (of_fields pool names refs types fields nodes literals variables room (rows_in given) (rows_in def.fields) (row, p)) j
-          go p j none q = rw (← d) at q
-          go p j (some key) q = absurd (comes_failed literals error.UnknownKey row p q)
+          go p j None q = rw (← d) at q
+          go p j (Some key) q = absurd (comes_failed literals error.UnknownKey row p q)
 
   -- ---- any type
 

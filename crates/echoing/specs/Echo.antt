@@ -1,7 +1,7 @@
 -- What an argument comes to, without it being built: where its value stands, and that its text is written. A literal is written whose coercion has
 -- been checked before; of one that cannot be coerced nothing is said but that the buffer stays as long as it was.
 use Rattle.std.specs.Prelude.{◌≡◌, List, [], ◌∷◌, ◌++◌, ℕ, suc, ◌≤◌, ◌<◌, length}
-use Rattle.std.proofs.Math.Option.{Option, none, some}
+use Rattle.std.specs.Prelude.{Option, Some, None}
 use Rattle.rows.specs.Names.{name_text}
 use Rattle.rows.specs.Schema.{type_ref_at, field_at}
 use Rattle.tokens.specs.Escape.{quoted}
@@ -50,15 +50,15 @@ Echoes room m before at r after = Shows containers print room m before at r afte
 -- ---- An input field: nothing where it is left out. The bytes: comma 44, colon 58.
 
 unfoldable pub field_size : Option Json → ℕ
-field_size none = 0
-field_size (some j) = containers j
+field_size None = 0
+field_size (Some j) = containers j
 
 unfoldable pub field_label : List ℕ → List ℕ
 field_label key = 44 ∷ (quoted key ++ (58 ∷ []))
 
 unfoldable pub field_text : (key : List ℕ) → Option Json → List ℕ
-field_text key none = []
-field_text key (some j) = field_label key ++ print j
+field_text key None = []
+field_text key (Some j) = field_label key ++ print j
 
 -- that of the field of this row
 unfoldable pub field_out : (pool names fields : List ℕ) → (field : ℕ) → Option Json → List ℕ

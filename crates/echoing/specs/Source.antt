@@ -1,13 +1,11 @@
 -- Where the value of an argument stands, by the definition of a field's arguments. Read it after Echo.
 use Rattle.std.specs.Prelude.{◌≡◌, List, ℕ, suc, ◌+◌, ◌≤◌, ◌<◌, eqb}
-use Rattle.std.proofs.Math.Option.{Option, none, some}
+use Rattle.std.specs.Prelude.{Option, Some, None}
 use Rattle.rows.specs.Layout.{node_width}
 use Rattle.rows.specs.Rows.{rows_of}
 use Rattle.rows.specs.Schema.{argument_at}
 use Rattle.rows.specs.Json.{literal_at, variable_at}
 use Rattle.rows.specs.declared.layout.Range.{Range}
-use Rattle.rows.specs.declared.layout.Optional.{Optional}
-use Rattle.rows.specs.declared.layout.Optional.TheVariants.{Absent, Row}
 use Rattle.codes.specs.Outcome.{most_open}
 use Rattle.graphql.specs.Run.{Path, M}
 use Rattle.graphql.specs.Json.{Json}
@@ -27,18 +25,18 @@ pub record ArgumentsDiffer (arguments : List ℕ) (definitions : Range) : Type 0
 unfoldable pub definition_named : (arguments : List ℕ) → (name : ℕ) → List ℕ → Option ℕ
 definition_named arguments name rows = find (λ row. eqb (argument_at arguments row).name name) rows
 
-unfoldable pub default_source : Optional → Source
-default_source Absent = source.Absent
-default_source (Row row) = source.Default row
+unfoldable pub default_source : Option ℕ → Source
+default_source None = source.Absent
+default_source (Some row) = source.Default row
 
-unfoldable pub variable_source : (variables : List ℕ) → Optional → Option ℕ → Source
-variable_source variables default none = default_source default
-variable_source variables default (some v) = source.Node (variable_at variables v).node
+unfoldable pub variable_source : (variables : List ℕ) → Option ℕ → Option ℕ → Source
+variable_source variables default None = default_source default
+variable_source variables default (Some v) = source.Node (variable_at variables v).node
 
 -- there is a value, and the run comes to it
 pub record Found (m : M Json) (found : Option Json) : Type 0 where
   pub value : Json
-  pub is : found ≡ some value
+  pub is : found ≡ Some value
   pub comes : Comes m value
 
 -- the same of a literal, which is no variable: the source of a variable is its node
@@ -49,7 +47,7 @@ pub record Given (literals : List ℕ) (row : ℕ) (m : M Json) (o : Option Json
 module _ (pool names refs types fields nodes literals variables : List ℕ) (p : Path) where
   -- what was found is the value of the source; where there is none, nothing was
   abbrev pub Stands : Source → Option Json → Type 0
-  Stands source.Absent found = found ≡ none
+  Stands source.Absent found = found ≡ None
   Stands (source.Node row) found = Found (node_value pool nodes (suc (rows_of nodes node_width)) row) found
   Stands (source.Literal ty row) found =
       Given literals row (coerce_argument_value pool names refs types fields nodes literals variables most_open p ty row) found

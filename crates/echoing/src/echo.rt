@@ -6,7 +6,6 @@ ghost use Rattle.rows.specs.Names.{name_text};
 ghost use Rattle.rows.specs.Schema.{field_at};
 ghost use Rattle.writing.specs.Wrote.{Writes};
 ghost use Rattle.graphql.specs.Lookup.{rows_in, variable_named};
-ghost use Rattle.lookup.specs.Found.{row_of};
 ghost use Rattle.input_coercion.specs.Coerced.{FormAt, Coercible};
 ghost use Rattle.values.specs.Put.{Parted};
 ghost use Rattle.values.specs.Literals.{LiteralsParted};
@@ -20,7 +19,7 @@ use lookup::named::{type_named, variable_named};
 use rows::columns::ARGUMENT_NAME;
 use rows::document::given_at;
 use rows::json::variable_at;
-use rows::layout::{Optional, Range};
+use rows::layout::Range;
 use rows::names::name_text;
 use rows::schema::{
     ARGUMENT_WIDTH, TypeKind, TypeRef, argument_at, field_at, type_at, type_ref_at,
@@ -40,19 +39,19 @@ pub enum Source {
     Default(u32),
 }
 
-fn default_source(default: Optional) -> Source
+fn default_source(default: Option<u32>) -> Source
     ensures { result ≡ default_source default }
 {
     match default {
-        Optional::Absent => Source::Absent,
-        Optional::Row(row) => Source::Default(row),
+        None => Source::Absent,
+        Some(row) => Source::Default(row),
     }
 }
 
-fn variable_source(variables: &[u32], default: Optional, name: u32) -> Source
+fn variable_source(variables: &[u32], default: Option<u32>, name: u32) -> Source
     ensures { result ≡ variable_source variables.now default (variable_named variables.now name) }
 {
-    let Optional::Row(row) = variable_named(variables, name) else {
+    let Some(row) = variable_named(variables, name) else {
         return default_source(default);
     };
     let variable = variable_at(variables, row);
@@ -60,9 +59,9 @@ fn variable_source(variables: &[u32], default: Optional, name: u32) -> Source
 }
 
 // The definition of the argument of this name.
-fn definition_named(arguments: &[u32], definitions: Range, name: u32) -> Optional
+fn definition_named(arguments: &[u32], definitions: Range, name: u32) -> Option<u32>
     requires { definitions.first + definitions.count ≤ most_rows }
-    ensures { result ≡ row_of (definition_named arguments.now name (rows_in definitions)) }
+    ensures { result ≡ definition_named arguments.now name (rows_in definitions) }
 {
     find_word(arguments, ARGUMENT_WIDTH, ARGUMENT_NAME, definitions, name)
 }
@@ -81,12 +80,12 @@ pub fn argument_source(
     requires arguments_differ { ArgumentsDiffer arguments.now definitions }
     ensures { SourceOf arguments.now given.now literals.now variables.now definitions written name result }
 {
-    let Optional::Row(row) = definition_named(arguments, definitions, name) else {
+    let Some(row) = definition_named(arguments, definitions, name) else {
         return Source::Absent;
     };
     let argument = argument_at(arguments, row);
     let default = argument.default;
-    let Optional::Row(at) = given_argument(given, written, name) else {
+    let Some(at) = given_argument(given, written, name) else {
         return default_source(default);
     };
     let value = given_at(given, at);
@@ -133,7 +132,7 @@ fn put_variable(
     ensures { EchoesVariable pool.now nodes.now variables.now room name
         text.old at result text.new }
 {
-    let Optional::Row(row) = variable_named(variables, name) else {
+    let Some(row) = variable_named(variables, name) else {
         return Put::At(put_null(text, at));
     };
     let variable = variable_at(variables, row);
@@ -239,14 +238,14 @@ fn put_input_field(
     let def = field_at(fields, field);
     let default = def.default;
     let literal = given_for(fields, literals, given, field);
-    if let Optional::Row(row) = literal {
+    if let Some(row) = literal {
         let value = put_field_label(pool, names, fields, text, at, field);
         return put_coerced(
             pool, names, type_refs, types, fields, nodes, literals, variables, text, value, room,
             def.ty, row,
         );
     }
-    let Optional::Row(constant) = default else {
+    let Some(constant) = default else {
         return Put::At(at);
     };
     let value = put_field_label(pool, names, fields, text, at, field);
@@ -332,7 +331,7 @@ fn put_named(
     ensures { Echoes room (of_named pool.now names.now type_refs.now types.now fields.now nodes.now literals.now variables.now
         room row shape name) text.old at result text.new }
 {
-    let Optional::Row(ty) = type_named(types, name) else {
+    let Some(ty) = type_named(types, name) else {
         return Put::TooFar;
     };
     let def = type_at(types, ty);

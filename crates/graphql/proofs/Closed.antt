@@ -2,11 +2,9 @@
 -- computations that the combinators keep is one of each definition. One lemma for each definition. Assumes nullGiven.
 use mathlib.Core.List.{List, [], ◌∷◌}
 use mathlib.Core.Bool.{Bool}
-use mathlib.Core.Option.{Option, none, some}
+use Rattle.std.specs.Prelude.{Option, Some, None}
 use Prim.Native.Nat.{ℕ, zero, suc}
 use Rattle.rows.specs.declared.layout.Range.{Range}
-use Rattle.rows.specs.declared.layout.Optional.{Optional}
-use Rattle.rows.specs.declared.layout.Optional.TheVariants as optional
 use Rattle.rows.specs.declared.schema.TypeRef.{TypeRef}
 use Rattle.rows.specs.declared.schema.TypeRef.TheVariants as ref
 use Rattle.rows.specs.declared.document.Selected.{Selected}
@@ -78,8 +76,8 @@ module _ {P : (A : Type 0) → M A → Type 0} {p : Path} (C : Closed P p) where
     module _ {open' : ℕ → ℕ → Collected → M Collected} (h : (o s : ℕ) (c : Collected) → P Collected (open' o s c)) (object : ℕ) where
       fragment_closed : (f : Option ℕ) (c : Collected) → P Collected (enter_fragment types members sets selections fragments variables nodes open' object f c)
       unfolding enter_fragment
-      fragment_closed none c = search closed
-      fragment_closed (some f) c = search closed
+      fragment_closed None c = search closed
+      fragment_closed (Some f) c = search closed
 
       spread_closed : (n : ℕ) (c : Collected) → P Collected (spread types members sets selections fragments variables nodes open' object n c)
       unfolding spread
@@ -168,20 +166,20 @@ module _ {P : (A : Type 0) → M A → Type 0} {p : Path} (C : Closed P p) where
 
     coerce_variable_closed : (ty row : ℕ) (v : Option ℕ) → P Json (coerce_variable pool names refs types fields nodes literals variables p ty row v)
     unfolding coerce_variable
-    coerce_variable_closed ty row none = search (closed, fail_at_closed)
-    coerce_variable_closed ty row (some v) = search (closed, fail_at_closed, variable_closed)
+    coerce_variable_closed ty row None = search (closed, fail_at_closed)
+    coerce_variable_closed ty row (Some v) = search (closed, fail_at_closed, variable_closed)
 
     module _ (room : ℕ) {inside : ℕ → ℕ → M Json} (h : (ty row : ℕ) → P Json (inside ty row)) where
       coerce_items_closed : (inner : ℕ) (rows : List ℕ) → P Json (coerce_items pool names refs types fields nodes literals variables room inside p inner rows)
       unfolding coerce_items
       coerce_items_closed inner rows = search closed
 
-      input_field_closed : (row f : ℕ) (given : Option ℕ) (default : Optional)
+      input_field_closed : (row f : ℕ) (given : Option ℕ) (default : Option ℕ)
           → P (Option Json) (input_field pool names refs types fields nodes literals variables room inside p row f given default)
       unfolding input_field
-      input_field_closed row f (some given) default = search closed
-      input_field_closed row f none (optional.Row default) = search (closed, part_by_part_closed)
-      input_field_closed row f none optional.Absent = search (closed, fail_at_closed)
+      input_field_closed row f (Some given) default = search closed
+      input_field_closed row f None (Some default) = search (closed, part_by_part_closed)
+      input_field_closed row f None None = search (closed, fail_at_closed)
 
       input_fields_closed : (row : ℕ) (given declared : List ℕ)
           → P Json (input_fields pool names refs types fields nodes literals variables room inside p row given declared)
@@ -192,8 +190,8 @@ module _ {P : (A : Type 0) → M A → Type 0} {p : Path} (C : Closed P p) where
       known_closed : (type row : ℕ) (given : List ℕ) (key : Option ℕ)
           → P Json (known_object pool names refs types fields nodes literals variables room inside p type row given key)
       unfolding known_object
-      known_closed type row given (some key) = fail_at_closed _ row
-      known_closed type row given none = input_fields_closed row given _
+      known_closed type row given (Some key) = fail_at_closed _ row
+      known_closed type row given None = input_fields_closed row given _
 
       input_object_closed : (type row : ℕ) (shape : Shape)
           → P Json (input_object pool names refs types fields nodes literals variables room inside p type row shape)
@@ -205,8 +203,8 @@ module _ {P : (A : Type 0) → M A → Type 0} {p : Path} (C : Closed P p) where
       coerce_named_closed : (row : ℕ) (shape : Shape) (type : Option ℕ)
           → P Json (coerce_named pool names refs types fields nodes literals variables room inside p row shape type)
       unfolding coerce_named
-      coerce_named_closed row shape none = fail_at_closed _ row
-      coerce_named_closed row shape (some type) = search (closed, input_object_closed, part_by_part_closed)
+      coerce_named_closed row shape None = fail_at_closed _ row
+      coerce_named_closed row shape (Some type) = search (closed, input_object_closed, part_by_part_closed)
 
       coerce_shape_closed : (row : ℕ) (shape : Shape) (t : TypeRef)
           → P Json (coerce_shape pool names refs types fields nodes literals variables room inside p row shape t)
@@ -237,17 +235,17 @@ module _ {P : (A : Type 0) → M A → Type 0} {p : Path} (C : Closed P p) where
       unfolding valued
       valued_closed argument h = search closed
 
-      default_closed_lem : (argument : ℕ) (default : Optional)
+      default_closed_lem : (argument : ℕ) (default : Option ℕ)
           → P Arguments (default_argument pool names refs types fields nodes literals variables arguments given p argument default)
       unfolding default_argument
-      default_closed_lem argument (optional.Row default) = valued_closed argument (part_by_part_closed pool names literals 32 default)
-      default_closed_lem argument optional.Absent = search (closed, argument_error_closed)
+      default_closed_lem argument (Some default) = valued_closed argument (part_by_part_closed pool names literals 32 default)
+      default_closed_lem argument None = search (closed, argument_error_closed)
 
       variable_argument_closed : (argument : ℕ) (v : Option ℕ)
           → P Arguments (variable_argument pool names refs types fields nodes literals variables arguments given p argument v)
       unfolding variable_argument
-      variable_argument_closed argument none = default_closed_lem argument _
-      variable_argument_closed argument (some v) = search (closed, argument_error_closed, valued_closed, variable_closed)
+      variable_argument_closed argument None = default_closed_lem argument _
+      variable_argument_closed argument (Some v) = search (closed, argument_error_closed, valued_closed, variable_closed)
 
       literal_argument_closed : (argument row : ℕ)
           → P Arguments (literal_argument pool names refs types fields nodes literals variables arguments given p argument row)
@@ -264,8 +262,8 @@ module _ {P : (A : Type 0) → M A → Type 0} {p : Path} (C : Closed P p) where
       coerce_argument_closed : (argument : ℕ) (g : Option ℕ)
           → P Arguments (coerce_argument pool names refs types fields nodes literals variables arguments given p argument g)
       unfolding coerce_argument
-      coerce_argument_closed argument none = default_closed_lem argument _
-      coerce_argument_closed argument (some g) = given_argument_closed argument _ _
+      coerce_argument_closed argument None = default_closed_lem argument _
+      coerce_argument_closed argument (Some g) = given_argument_closed argument _ _
 
       arguments_closed : (definitions written : Range)
           → P Arguments (coerce_argument_values pool names refs types fields nodes literals variables arguments given p definitions written)
@@ -281,8 +279,8 @@ module _ {P : (A : Type 0) → M A → Type 0} {p : Path} (C : Closed P p) where
   module _ (Q : Request) where
     echoed_closed : (n : ℕ) (j : Option Json) → P Resolved (echoed Q n j)
     unfolding echoed
-    echoed_closed n none = search closed
-    echoed_closed n (some j) = search closed
+    echoed_closed n None = search closed
+    echoed_closed n (Some j) = search closed
 
     pub resolved_closed : (args : Arguments) (row : ℕ) (a : Answer) → P Resolved (resolved Q args row a)
     unfolding resolved
@@ -296,8 +294,8 @@ module _ {P : (A : Type 0) → M A → Type 0} {p : Path} (C : Closed P p) where
 
     answered_closed : (args : Arguments) (row : Option ℕ) → P Resolved (answered Q args row)
     unfolding answered
-    answered_closed args none = search closed
-    answered_closed args (some row) = resolved_closed args row _
+    answered_closed args None = search closed
+    answered_closed args (Some row) = resolved_closed args row _
 
     pub resolve_field_value_closed : (rows : Range) (n : ℕ) (args : Arguments) → P Resolved (resolve_field_value Q rows n args)
     unfolding resolve_field_value

@@ -4,7 +4,7 @@
 use mathlib.Core.Path.{◌≡◌, refl, sym, subst}
 use mathlib.Core.List.{List, [], ◌∷◌, ◌++◌, mem-cons_of_mem, mem-cons_self}
 use mathlib.Core.Bool.{Bool, true, false, not}
-use mathlib.Core.Option.{Option, none, some}
+use Rattle.std.specs.Prelude.{Option, Some, None}
 use Prim.Native.Nat.{ℕ, zero, suc}
 use Rattle.rows.specs.declared.layout.Range.{Range}
 use Rattle.rows.specs.declared.schema.TypeRef.{TypeRef}
@@ -80,8 +80,8 @@ module _ (Q : Request) where
 
   type_defined_fails : (type : Option ℕ) (g : Group) (p : Path) → FailsIn (At p) (type_defined Q type g p)
   unfolding type_defined
-  type_defined_fails none g p = field_error_meets _ g p
-  type_defined_fails (some type) g p = meets_pure _ tt
+  type_defined_fails None g p = field_error_meets _ g p
+  type_defined_fails (Some type) g p = meets_pure _ tt
 
   named_type_fails : (t : TypeRef) (g : Group) (p : Path) → FailsIn (At p) (named_type Q t g p)
   unfolding named_type
@@ -95,8 +95,8 @@ module _ (Q : Request) where
 
   enum_leaf_presents : (type : ℕ) (l : Leaf) (s : Option (List ℕ)) (g : Group) (p : Path) → Presents p (enum_leaf Q type l s g p)
   unfolding enum_leaf
-  enum_leaf_presents type l none g p = field_error_meets _ g p
-  enum_leaf_presents type l (some s) g p = meets_when _ (leaf_presents _ p) (field_error_meets _ g p)
+  enum_leaf_presents type l None g p = field_error_meets _ g p
+  enum_leaf_presents type l (Some s) g p = meets_when _ (leaf_presents _ p) (field_error_meets _ g p)
 
   leaf_at_presents : (type : ℕ) (k : TypeKind) (l : Leaf) (g : Group) (p : Path) → Presents p (leaf_at Q type k l g p)
   unfolding leaf_at
@@ -118,8 +118,8 @@ module _ (Q : Request) where
 
   abstract_fails : (possible : ℕ → Bool) (e : FieldError) (type : Option ℕ) (g : Group) (p : Path) → FailsIn (At p) (resolve_abstract_type Q possible e type g p)
   unfolding resolve_abstract_type
-  abstract_fails possible e none g p = field_error_meets _ g p
-  abstract_fails possible e (some type) g p = meets_when _ (meets_pure _ tt) (field_error_meets _ g p)
+  abstract_fails possible e None g p = field_error_meets _ g p
+  abstract_fails possible e (Some type) g p = meets_when _ (meets_pure _ tt) (field_error_meets _ g p)
 
   object_type_fails : (type : ℕ) (k : TypeKind) (n : ℕ) (g : Group) (p : Path) → FailsIn (At p) (object_type Q type k n g p)
   unfolding object_type
@@ -139,8 +139,8 @@ module _ (Q : Request) where
   module _ {rec : Task → Path → M Val} (h : (t : Task) (p : Path) → Gives t p (rec t p)) where
     group_meets : (type : ℕ) (rows : Range) (p : Path) (g : Group) (d : Option Definition) → Meets (At p) (InGroup Q p g) (execute_group Q rec type rows p g d)
     unfolding execute_group
-    group_meets type rows p g none = meets_pure _ tt
-    group_meets type rows p g (some d) = meets_weaken (hit_up Q p (name g.key)) (λ v w k. k) (h (a_field type rows g d) (p ++ (name g.key ∷ [])))
+    group_meets type rows p g None = meets_pure _ tt
+    group_meets type rows p g (Some d) = meets_weaken (hit_up Q p (name g.key)) (λ v w k. k) (h (a_field type rows g d) (p ++ (name g.key ∷ [])))
 
     set_gives : (type : ℕ) (rows : Range) (selections : List ℕ) (p : Path) → Meets (At p) (DataHere Q (spot_of_path Q p)) (execute_selection_set Q rec type rows selections p)
     unfolding execute_selection_set

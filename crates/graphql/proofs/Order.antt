@@ -2,7 +2,7 @@
 -- lemma for each definition. Assumes nothing.
 use mathlib.Core.List.{List, []}
 use mathlib.Core.Bool.{Bool, true, false}
-use mathlib.Core.Option.{Option, none, some}
+use Rattle.std.specs.Prelude.{Option, Some, None}
 use Prim.Native.Nat.{ℕ, zero, suc}
 use Rattle.rows.specs.declared.layout.Range.{Range}
 use Rattle.rows.specs.declared.schema.TypeRef.{TypeRef}
@@ -59,8 +59,8 @@ module _ (Q : Request) where
 
   type_defined_stable : (type : Option ℕ) (g : Group) (p : Path) → Stable (type_defined Q type g p)
   unfolding type_defined
-  type_defined_stable none g p = search field_error_stable
-  type_defined_stable (some type) g p = search stable
+  type_defined_stable None g p = search field_error_stable
+  type_defined_stable (Some type) g p = search stable
 
   named_type_stable : (t : TypeRef) (g : Group) (p : Path) → Stable (named_type Q t g p)
   unfolding named_type
@@ -74,8 +74,8 @@ module _ (Q : Request) where
 
   enum_leaf_stable : (type : ℕ) (l : Leaf) (s : Option (List ℕ)) (g : Group) (p : Path) → Stable (enum_leaf Q type l s g p)
   unfolding enum_leaf
-  enum_leaf_stable type l none g p = search field_error_stable
-  enum_leaf_stable type l (some s) g p = search (stable, field_error_stable)
+  enum_leaf_stable type l None g p = search field_error_stable
+  enum_leaf_stable type l (Some s) g p = search (stable, field_error_stable)
 
   leaf_at_stable : (type : ℕ) (k : TypeKind) (l : Leaf) (g : Group) (p : Path) → Stable (leaf_at Q type k l g p)
   unfolding leaf_at
@@ -93,8 +93,8 @@ module _ (Q : Request) where
 
   abstract_stable : (possible : ℕ → Bool) (e : FieldError) (type : Option ℕ) (g : Group) (p : Path) → Stable (resolve_abstract_type Q possible e type g p)
   unfolding resolve_abstract_type
-  abstract_stable possible e none g p = search field_error_stable
-  abstract_stable possible e (some type) g p = search (stable, field_error_stable)
+  abstract_stable possible e None g p = search field_error_stable
+  abstract_stable possible e (Some type) g p = search (stable, field_error_stable)
 
   object_type_stable : (type : ℕ) (k : TypeKind) (n : ℕ) (g : Group) (p : Path) → Stable (object_type Q type k n g p)
   unfolding object_type
@@ -109,8 +109,8 @@ module _ (Q : Request) where
   module _ {rec : Task → Path → M Val} (h : (t : Task) (p : Path) → Stable (rec t p)) where
     group_stable : (type : ℕ) (rows : Range) (p : Path) (g : Group) (d : Option Definition) → Stable (execute_group Q rec type rows p g d)
     unfolding execute_group
-    group_stable type rows p g none = search stable
-    group_stable type rows p g (some d) = h _ _
+    group_stable type rows p g None = search stable
+    group_stable type rows p g (Some d) = h _ _
 
     set_stable : (type : ℕ) (rows : Range) (selections : List ℕ) (p : Path) → Stable (execute_selection_set Q rec type rows selections p)
     unfolding execute_selection_set

@@ -1,14 +1,12 @@
 -- CoerceArgumentValues (October 2021, section 6.4.1) and the input coercion of literals (sections 3.5 and 3.9 to 3.12), as the Rust reads them:
 -- "Arguments as the Rust's." Read it after Values and Errors.
 use Rattle.std.specs.Prelude.{List, [], ◌∷◌, ◌++◌, map, Bool, true, false, cond, ◌&&◌, ℕ, zero, suc, ◌-◌, eqb}
-use Rattle.std.proofs.Math.Option.{Option, none, some}
+use Rattle.std.specs.Prelude.{Option, Some, None}
 use Rattle.rows.specs.Names.{name_text}
 use Rattle.rows.specs.Schema.{type_ref_at, type_at, field_at, argument_at}
 use Rattle.rows.specs.Document.{given_at}
 use Rattle.rows.specs.Json.{node_at, literal_at, literal_place, literal_key, variable_at}
 use Rattle.rows.specs.declared.layout.Range.{Range}
-use Rattle.rows.specs.declared.layout.Optional.{Optional}
-use Rattle.rows.specs.declared.layout.Optional.TheVariants as optional
 use Rattle.rows.specs.declared.schema.TypeRef.{TypeRef}
 use Rattle.rows.specs.declared.schema.TypeRef.TheVariants as ref
 use Rattle.rows.specs.declared.schema.TypeKind.{TypeKind}
@@ -27,8 +25,8 @@ abbrev pub Arguments : Type 0
 Arguments = List (ℕ × Json)
 
 unfoldable pub argument_named : ℕ → Arguments → Option Json
-argument_named n [] = none
-argument_named n (a ∷ rest) = let later = argument_named n rest in cond (eqb a.0 n) (some a.1) later
+argument_named n [] = None
+argument_named n (a ∷ rest) = let later = argument_named n rest in cond (eqb a.0 n) (Some a.1) later
 
 unfoldable pub is_null_form : NodeForm → Bool
 is_null_form is_null = true
@@ -61,15 +59,15 @@ fail_at literals e row p = fail here (error_of e 0 0 (literal_place literals row
 -- a key of an object literal that the type has no field for
 unfoldable pub unknown_key : (types fields literals : List ℕ) → (type : ℕ) → List ℕ → Option ℕ
 unknown_key types fields literals type given =
-    find (λ m. elim (field_named types fields type (literal_key literals m)) [ none ↦ true | some f ↦ false ]) given
+    find (λ m. elim (field_named types fields type (literal_key literals m)) [ None ↦ true | Some f ↦ false ]) given
 
 module _ (pool names refs types fields nodes literals variables : List ℕ) where
   -- ---- One value
 
   -- A variable inside a list or an object: its value, null where it is absent and may be, or an error.
   unfoldable pub coerce_variable : Path → (ty row : ℕ) → Option ℕ → M Json
-  coerce_variable p ty row none = when (non_null refs ty) (fail_at literals error.MissingVariable row p) (pure null)
-  coerce_variable p ty row (some v) =
+  coerce_variable p ty row None = when (non_null refs ty) (fail_at literals error.MissingVariable row p) (pure null)
+  coerce_variable p ty row (Some v) =
       when (null_against refs nodes variables ty v) (fail_at literals error.NullVariable row p) (variable_value pool nodes variables v)
 
   -- `inside` coerces a literal at a type, one container further in; `room` is how many containers may still be opened.
@@ -81,15 +79,15 @@ module _ (pool names refs types fields nodes literals variables : List ℕ) wher
 
     -- An input field (section 3.10): as it is given, by its default, or missing. A field given as an absent variable is given: it comes to
     -- null even over its default, a listed difference (October 2021 takes the default, or leaves the key out). `row` is the whole object literal.
-    unfoldable pub input_field : (row field : ℕ) → Option ℕ → Optional → M (Option Json)
-    input_field row field (some given) default = do
+    unfoldable pub input_field : (row field : ℕ) → Option ℕ → Option ℕ → M (Option Json)
+    input_field row field (Some given) default = do
       j ← inside (field_at fields field).ty given
-      pure (some j)
-    input_field row field none (optional.Row default) = do
+      pure (Some j)
+    input_field row field None (Some default) = do
       j ← part_by_part pool names literals (room - 1) default
-      pure (some j)
-    input_field row field none optional.Absent =
-        when (non_null refs (field_at fields field).ty) (fail_at literals error.MissingInputField row p) (pure none)
+      pure (Some j)
+    input_field row field None None =
+        when (non_null refs (field_at fields field).ty) (fail_at literals error.MissingInputField row p) (pure None)
 
     -- the fields of an input object type, in the type's order
     unfoldable pub input_fields : (row : ℕ) → List ℕ → List ℕ → M Json
@@ -102,8 +100,8 @@ module _ (pool names refs types fields nodes literals variables : List ℕ) wher
 
     -- Input objects (section 3.10). An unknown key is found before anything about the values.
     unfoldable pub known_object : (type row : ℕ) → List ℕ → Option ℕ → M Json
-    known_object type row given (some key) = fail_at literals error.UnknownKey row p
-    known_object type row given none = input_fields row given (rows_in (type_at types type).fields)
+    known_object type row given (Some key) = fail_at literals error.UnknownKey row p
+    known_object type row given None = input_fields row given (rows_in (type_at types type).fields)
 
     unfoldable pub input_object : (type row : ℕ) → Shape → M Json
     input_object type row single = fail_at literals error.CannotCoerce row p
@@ -111,8 +109,8 @@ module _ (pool names refs types fields nodes literals variables : List ℕ) wher
     input_object type row (keyed rows) = known_object type row (rows_in rows) (unknown_key types fields literals type (rows_in rows))
 
     unfoldable pub coerce_named : (row : ℕ) → Shape → Option ℕ → M Json
-    coerce_named row shape none = fail_at literals error.UndefinedInputType row p
-    coerce_named row shape (some type) =
+    coerce_named row shape None = fail_at literals error.UndefinedInputType row p
+    coerce_named row shape (Some type) =
         when (is_input_object (type_at types type).kind) (input_object type row shape) (part_by_part pool names literals room row)
 
     -- At a list type every item is coerced at the inner type, and there wrapped anew: `[[Int]]` given `[1,2]` is `[[1],[2]]`, a listed
@@ -150,13 +148,13 @@ module _ (pool names refs types fields nodes literals variables : List ℕ) wher
       pure (((argument_at arguments argument).name, j) ∷ [])
 
     -- An argument that is not given, or given as an absent variable: its default, or missing.
-    unfoldable pub default_argument : Path → ℕ → Optional → M Arguments
-    default_argument p argument (optional.Row default) = valued argument (part_by_part pool names literals most_open default)
-    default_argument p argument optional.Absent = when (is_non_null argument) (argument_error error.MissingArgument p argument) (pure [])
+    unfoldable pub default_argument : Path → ℕ → Option ℕ → M Arguments
+    default_argument p argument (Some default) = valued argument (part_by_part pool names literals most_open default)
+    default_argument p argument None = when (is_non_null argument) (argument_error error.MissingArgument p argument) (pure [])
 
     unfoldable pub variable_argument : Path → ℕ → Option ℕ → M Arguments
-    variable_argument p argument none = default_argument p argument (argument_at arguments argument).default
-    variable_argument p argument (some v) =
+    variable_argument p argument None = default_argument p argument (argument_at arguments argument).default
+    variable_argument p argument (Some v) =
         when (null_against refs nodes variables (argument_at arguments argument).ty v) (argument_error error.NullArgument p argument)
         (valued argument (variable_value pool nodes variables v))
 
@@ -170,8 +168,8 @@ module _ (pool names refs types fields nodes literals variables : List ℕ) wher
     given_argument p argument row (shaped shape) = literal_argument p argument row
 
     unfoldable pub coerce_argument : Path → ℕ → Option ℕ → M Arguments
-    coerce_argument p argument none = default_argument p argument (argument_at arguments argument).default
-    coerce_argument p argument (some g) =
+    coerce_argument p argument None = default_argument p argument (argument_at arguments argument).default
+    coerce_argument p argument (Some g) =
         let row = (given_at given g).literal in
         given_argument p argument row (literal_form (literal_at literals row))
 

@@ -1,11 +1,9 @@
 -- CollectFields (October 2021, section 6.3.2), DoesFragmentTypeApply, skip and include (sections 3.13.1 and 3.13.2). Read it after Values.
 use Rattle.std.specs.Prelude.{List, [], ◌∷◌, ◌++◌, Bool, true, false, not, cond, ◌||◌, ℕ, zero, suc, eqb}
-use Rattle.std.proofs.Math.Option.{Option, none, some}
+use Rattle.std.specs.Prelude.{Option, Some, None}
 use Rattle.rows.specs.Schema.{type_at}
 use Rattle.rows.specs.Document.{selection_at, fragment_at}
 use Rattle.rows.specs.Json.{node_at, variable_at}
-use Rattle.rows.specs.declared.layout.Optional.{Optional}
-use Rattle.rows.specs.declared.layout.Optional.TheVariants as optional
 use Rattle.rows.specs.declared.schema.TypeKind.{TypeKind}
 use Rattle.rows.specs.declared.schema.TypeKind.TheVariants as kind
 use Rattle.rows.specs.declared.document.Condition.{Condition}
@@ -58,8 +56,8 @@ or_default d is_other = d
 module _ (variables nodes : List ℕ) where
   -- "A variable that is absent or not boolean counts as no directive."
   unfoldable pub variable_holds : Bool → Option ℕ → Bool
-  variable_holds d none = d
-  variable_holds d (some v) = or_default d (node_form (node_at nodes (variable_at variables v).node))
+  variable_holds d None = d
+  variable_holds d (Some v) = or_default d (node_form (node_at nodes (variable_at variables v).node))
 
   -- whether a directive's `if` holds, or `d` where there is no directive
   unfoldable pub holds : Bool → Condition → Bool
@@ -87,19 +85,19 @@ module _ (types members : List ℕ) where
   -- DoesFragmentTypeApply(objectType, fragmentType)
   unfoldable pub does_fragment_type_apply : ℕ → ℕ → Bool
   does_fragment_type_apply object condition =
-      elim (type_named types condition) [ none ↦ false | some row ↦ applies_by object condition row (type_at types row).kind ]
+      elim (type_named types condition) [ None ↦ false | Some row ↦ applies_by object condition row (type_at types row).kind ]
 
   -- "an inline one with no type to all"
-  unfoldable pub inline_applies : ℕ → Optional → Bool
-  inline_applies object optional.Absent = true
-  inline_applies object (optional.Row n) = does_fragment_type_apply object n
+  unfoldable pub inline_applies : ℕ → Option ℕ → Bool
+  inline_applies object None = true
+  inline_applies object (Some n) = does_fragment_type_apply object n
 
 module _ (types members sets selections fragments variables nodes : List ℕ) where
   -- `open'` collects the selections of a fragment's set, one more fragment being open.
   module _ (open' : ℕ → ℕ → Collected → M Collected) (object : ℕ) where
     unfoldable pub enter_fragment : Option ℕ → Collected → M Collected
-    enter_fragment none c = pure c
-    enter_fragment (some f) c =
+    enter_fragment None c = pure c
+    enter_fragment (Some f) c =
         when (does_fragment_type_apply types members object (fragment_at fragments f).condition)
         (open' object (fragment_at fragments f).set c)
         (pure c)

@@ -1,7 +1,7 @@
 -- ExecuteSelectionSet (October 2021, section 6.3), ExecuteField and CompleteValue (sections 6.4 to 6.4.4) and the handling of field errors.
 -- Each takes `rec`, which does a task one path segment further down. Read it after Request and Data.
 use Rattle.std.specs.Prelude.{List, [], ◌∷◌, ◌++◌, map, Bool, true, false, not, cond, ◌&&◌, ◌||◌, ℕ, zero, suc, leb, eqb}
-use Rattle.std.proofs.Math.Option.{Option, none, some}
+use Rattle.std.specs.Prelude.{Option, Some, None}
 use Rattle.rows.specs.Names.{name_text, 'typename, 'Int, 'Float, 'String, 'Boolean, 'ID}
 use Rattle.rows.specs.Schema.{type_ref_at, type_at, field_at}
 use Rattle.rows.specs.Document.{selection_at, field_selection}
@@ -123,8 +123,8 @@ module _ (Q : Request) where
   -- the definition of a field of an object type
   unfoldable pub definition_of : (type n : ℕ) → Option Definition
   definition_of type n =
-      let own = elim (field_named T.types T.fields type n) as (λ o. Option Definition) [ none ↦ none | some f ↦ some (defined f) ] in
-      cond (eqb n 'typename) (some typename) own
+      let own = elim (field_named T.types T.fields type n) as (λ o. Option Definition) [ None ↦ None | Some f ↦ Some (defined f) ] in
+      cond (eqb n 'typename) (Some typename) own
 
   unfoldable pub coerce_arguments : Path → (definitions written : Range) → M Arguments
   coerce_arguments =
@@ -134,8 +134,8 @@ module _ (Q : Request) where
 
   -- "A leaf's or echo's containers count as it is taken, ahead of its type". An echo without its argument is an error.
   unfoldable pub echoed : (n : ℕ) → Option Json → M Resolved
-  echoed n none = pure an_error
-  echoed n (some j) = when (leb (containers j) most_open) (pure (given (a_leaf (record { origin = from_argument n; json = j })))) (halt too_far)
+  echoed n None = pure an_error
+  echoed n (Some j) = when (leb (containers j) most_open) (pure (given (a_leaf (record { origin = from_argument n; json = j })))) (halt too_far)
 
   unfoldable pub resolved : Arguments → (row : ℕ) → Answer → M Resolved
   resolved args row answer.Skip = pure a_skip
@@ -150,8 +150,8 @@ module _ (Q : Request) where
 
   -- "takes the answer (no row is an error)"
   unfoldable pub answered : Arguments → Option ℕ → M Resolved
-  answered args none = pure an_error
-  answered args (some row) = resolved args row (answer_at T.answers row)
+  answered args None = pure an_error
+  answered args (Some row) = resolved args row (answer_at T.answers row)
 
   -- ResolveFieldValue(objectType, objectValue, fieldName, argumentValues)
   unfoldable pub resolve_field_value : Range → (n : ℕ) → Arguments → M Resolved
@@ -161,8 +161,8 @@ module _ (Q : Request) where
 
   -- "then list type without a list; undefined type": the type at which a leaf or an object is completed
   unfoldable pub type_defined : Option ℕ → Group → Path → M ℕ
-  type_defined none g p = field_error error.UndefinedType g p
-  type_defined (some type) g p = pure type
+  type_defined None g p = field_error error.UndefinedType g p
+  type_defined (Some type) g p = pure type
 
   unfoldable pub named_type : TypeRef → Group → Path → M ℕ
   named_type (ref.Named n nullable) g p = type_defined (type_named T.types n) g p
@@ -176,8 +176,8 @@ module _ (Q : Request) where
 
   -- "Enum: a string naming a value."
   unfoldable pub enum_leaf : (type : ℕ) → Leaf → Option (List ℕ) → Group → Path → M Val
-  enum_leaf type l none g p = field_error error.NotAnEnumValue g p
-  enum_leaf type l (some s) g p =
+  enum_leaf type l None g p = field_error error.NotAnEnumValue g p
+  enum_leaf type l (Some s) g p =
       when (has_value T.pool T.names T.types T.members type s) (pure (val (leaf l.json))) (field_error error.NotAnEnumValue g p)
 
   unfoldable pub leaf_at : (type : ℕ) → TypeKind → Leaf → Group → Path → M Val
@@ -203,12 +203,12 @@ module _ (Q : Request) where
   -- the object type of this name, if there is one
   unfoldable pub object_named : ℕ → Option ℕ
   object_named n =
-      elim (type_named T.types n) as (λ o. Option ℕ) [ none ↦ none | some type ↦ cond (object_kind (type_at T.types type).kind) (some type) none ]
+      elim (type_named T.types n) as (λ o. Option ℕ) [ None ↦ None | Some type ↦ cond (object_kind (type_at T.types type).kind) (Some type) None ]
 
   -- ResolveAbstractType(abstractType, objectValue): the object type that the answer names, if it is one of the possible ones
   unfoldable pub resolve_abstract_type : (possible : ℕ → Bool) → FieldError → Option ℕ → Group → Path → M ℕ
-  resolve_abstract_type possible e none g p = field_error error.ObjectTypeUnknown g p
-  resolve_abstract_type possible e (some type) g p = when (possible type) (pure type) (field_error e g p)
+  resolve_abstract_type possible e None g p = field_error error.ObjectTypeUnknown g p
+  resolve_abstract_type possible e (Some type) g p = when (possible type) (pure type) (field_error e g p)
 
   unfoldable pub object_type : (type : ℕ) → TypeKind → (name : ℕ) → Group → Path → M ℕ
   object_type type kind.Scalar n g p = field_error error.ObjectForLeafType g p
@@ -224,8 +224,8 @@ module _ (Q : Request) where
   module _ (rec : Task → Path → M Val) where
     -- "A group whose first field isn't defined on the object is left out."
     unfoldable pub execute_group : (type : ℕ) → Range → Path → Group → Option Definition → M Val
-    execute_group type object_rows p g none = pure absent
-    execute_group type object_rows p g (some d) = rec (a_field type object_rows g d) (p ++ (name g.key ∷ []))
+    execute_group type object_rows p g None = pure absent
+    execute_group type object_rows p g (Some d) = rec (a_field type object_rows g d) (p ++ (name g.key ∷ []))
 
     -- ExecuteSelectionSet(selectionSet, objectType, objectValue, variableValues)
     unfoldable pub execute_selection_set : (type : ℕ) → Range → List ℕ → Path → M Data

@@ -2,7 +2,7 @@
 -- so far plus its remembered rise is over 3; otherwise it doesn't raise the result. An undefined one is passed over. Skip and include
 -- are ignored." Read it after Lookup.
 use Rattle.std.specs.Prelude.{List, [], ◌∷◌, cond, ◌&&◌, ℕ, zero, suc, ◌+◌, ◌-◌, max, leb, ltb, eqb}
-use Rattle.std.proofs.Math.Option.{Option, none, some}
+use Rattle.std.specs.Prelude.{Option, Some, None}
 use Rattle.rows.specs.Document.{selection_at, fragment_at}
 use Rattle.rows.specs.declared.document.Selected.{Selected}
 use Rattle.rows.specs.declared.document.Selected.TheVariants as selected
@@ -19,8 +19,8 @@ abbrev pub Rises : Type 0
 Rises = List (ℕ × ℕ)
 
 unfoldable pub rise_of : ℕ → Rises → Option ℕ
-rise_of n [] = none
-rise_of n (r ∷ rest) = let later = rise_of n rest in cond (eqb r.0 n) (some r.1) later
+rise_of n [] = None
+rise_of n (r ∷ rest) = let later = rise_of n rest in cond (eqb r.0 n) (Some r.1) later
 
 -- how a check of a set ends: a 33rd open set, too deep at a place, or a depth with the rises that are remembered
 pub data Checked : Type 0 where
@@ -53,12 +53,12 @@ module _ (sets selections fragments : List ℕ) where
     remembered n d rises = depth d ((n, d - sofar) ∷ rises)
 
     unfoldable pub check_fragment : (place n f : ℕ) → Option ℕ → Rises → Checked
-    check_fragment place n f (some rise) rises = met_again place rise rises
-    check_fragment place n f none rises = and_then (open' (fragment_at fragments f).set sofar rises) (remembered n)
+    check_fragment place n f (Some rise) rises = met_again place rise rises
+    check_fragment place n f None rises = and_then (open' (fragment_at fragments f).set sofar rises) (remembered n)
 
     unfoldable pub check_spread : (place n : ℕ) → Option ℕ → Rises → Checked
-    check_spread place n none rises = depth sofar rises
-    check_spread place n (some f) rises = check_fragment place n f (rise_of n rises) rises
+    check_spread place n None rises = depth sofar rises
+    check_spread place n (Some f) rises = check_fragment place n f (rise_of n rises) rises
 
     unfoldable pub check_selected : (place : ℕ) → Selected → Rises → Checked
     check_selected place (selected.Field f) rises = check_field place f rises

@@ -2,7 +2,7 @@
 -- are open in them, and what the rules on leaves tell apart. Read it after Run.
 use Rattle.std.specs.Prelude.{List, [], ◌∷◌, ◌++◌, Bool, true, false, cond, ℕ, suc, max, ltb, leb}
 use Rattle.std.proofs.Math.Bool.{decide}
-use Rattle.std.proofs.Math.Option.{Option, none, some}
+use Rattle.std.specs.Prelude.{Option, Some, None}
 use Rattle.tokens.specs.Escape.{quoted}
 use Rattle.tokens.specs.Decimal.{decimal}
 use Rattle.tokens.specs.Literal.{null_name, true_name, false_name}
@@ -36,8 +36,8 @@ items (j ∷ js) = item j (items js)
 unfoldable pub members : List (List ℕ) → List (Option Json) → Members
 members [] vs = no_member
 members (k ∷ ks) [] = no_member
-members (k ∷ ks) (none ∷ vs) = members ks vs
-members (k ∷ ks) (some j ∷ vs) = member k j (members ks vs)
+members (k ∷ ks) (None ∷ vs) = members ks vs
+members (k ∷ ks) (Some j ∷ vs) = member k j (members ks vs)
 
 -- RFC 8259, sections 3 to 7. The bytes: comma 44, minus 45, colon 58, [ 91, ] 93, { 123, } 125. Each part of a container has a comma before
 -- it, and `bracketed` puts the left bracket in the first one's place.
@@ -107,11 +107,11 @@ unfoldable pub is_a : Sort → Json → Bool
 is_a sort j = decide (sort-discrete sort (sort_of j))
 
 unfoldable pub string_of : Json → Option (List ℕ)
-string_of null = none
-string_of (bool b) = none
-string_of (natural n) = none
-string_of (negative m) = none
-string_of (float spelling) = none
-string_of (string s) = some s
-string_of (array is) = none
-string_of (object ms) = none
+string_of null = None
+string_of (bool b) = None
+string_of (natural n) = None
+string_of (negative m) = None
+string_of (float spelling) = None
+string_of (string s) = Some s
+string_of (array is) = None
+string_of (object ms) = None

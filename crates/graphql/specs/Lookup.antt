@@ -1,7 +1,7 @@
 -- What the tables say, by name: types and their parts, fragments, variables, the answer of a field. Each definition takes the tables that it
 -- reads, as the row views do. Read it after Outcome.
 use Rattle.std.specs.Prelude.{List, [], ◌∷◌, Bool, false, not, cond, ◌||◌, ℕ, zero, suc, eqb}
-use Rattle.std.proofs.Math.Option.{Option, none, some}
+use Rattle.std.specs.Prelude.{Option, Some, None}
 use Rattle.rows.specs.Layout.{type_width, fragment_width, variable_width}
 use Rattle.rows.specs.Rows.{rows_of}
 use Rattle.rows.specs.Strings.{same}
@@ -26,8 +26,8 @@ rows_in range = rows_from range.first range.count
 
 -- the first row that passes a test
 unfoldable pub find : (ℕ → Bool) → List ℕ → Option ℕ
-find test [] = none
-find test (row ∷ rest) = let later = find test rest in cond (test row) (some row) later
+find test [] = None
+find test (row ∷ rest) = let later = find test rest in cond (test row) (Some row) later
 
 unfoldable pub any : (ℕ → Bool) → List ℕ → Bool
 any test [] = false

@@ -1,7 +1,7 @@
 -- Nodes as JSON values, and literals that convert part by part. A value in which too many containers are open is code 3. Read it after
 -- Lookup.
 use Rattle.std.specs.Prelude.{List, map, Bool, true, false, ℕ, zero, suc, ◌+◌, ◌*◌}
-use Rattle.std.proofs.Math.Option.{some}
+use Rattle.std.specs.Prelude.{Some}
 use Rattle.rows.specs.Layout.{node_width}
 use Rattle.rows.specs.Rows.{rows_of}
 use Rattle.rows.specs.Strings.{text_of}
@@ -35,7 +35,7 @@ module _ (room : ℕ) (inside : ℕ → M Json) where
   unfoldable pub object_of : (key : ℕ → List ℕ) → List ℕ → M Json
   object_of key rows = opened room (do
     js ← in_order inside rows
-    pure (object (members (map key rows) (map some js))))
+    pure (object (members (map key rows) (map Some js))))
 
 -- ---- JSON nodes
 

@@ -9,8 +9,7 @@ use Rattle.rows.specs.Limits.{most_rows}
 use Rattle.rows.specs.Schema.{argument_at}
 use Rattle.rows.specs.Document.{given_at}
 use Rattle.rows.specs.declared.layout.Range.{Range}
-use Rattle.rows.specs.declared.layout.Optional.{Optional}
-use Rattle.rows.specs.declared.layout.Optional.TheVariants.{Absent, Row}
+use Rattle.std.specs.Prelude.{Option, Some, None}
 use Rattle.rows.specs.declared.schema.Argument.{Argument}
 use Rattle.rows.specs.declared.document.Given.{Given}
 use Rattle.codes.specs.declared.errors.FieldError.TheVariants as error
@@ -21,7 +20,6 @@ use Rattle.graphql.specs.Errors.{place_among, error_of}
 use Rattle.graphql.specs.Lookup.{rows_from, rows_in, non_null, variable_named}
 use Rattle.graphql.specs.Values.{variable_value}
 use Rattle.graphql.specs.Coerce.{null_against, argument_error, is_non_null, valued, default_argument, variable_argument, literal_argument, given_argument, coerce_argument, coerce_argument_values}
-use Rattle.lookup.specs.Found.{row_of}
 use Rattle.input_coercion.specs.Ends.{argument_fails, Checks}
 use Rattle.input_coercion.specs.Coerced.{FormAt, Valuable, given_named, of_part, of_value, of_default, of_variable_argument, of_argument, of_arguments, ChecksDefault, ChecksVariable}
 use Rattle.input_coercion.specs.declared.check.Coercion.{Coercion}
@@ -37,7 +35,7 @@ use Rattle.input_coercion.proofs.Walk.{value_null}
 -- ---- a default
 
 module _ (refs literals : List ℕ) (argument : Argument) where
-  pub default_part : {default : ℕ} {r : Coercion} → argument.default ≡ Row default → Checks (of_part literals most_open default) r
+  pub default_part : {default : ℕ} {r : Coercion} → argument.default ≡ Some default → Checks (of_part literals most_open default) r
       → ChecksDefault refs literals argument r
   unfolding of_default default_argument valued of_part
   default_part {r = r'} h q = record {
@@ -46,7 +44,7 @@ module _ (refs literals : List ℕ) (argument : Argument) where
     };
   }
 
-  module _ {b : Bool} (h : argument.default ≡ Absent) (g : b ≡ non_null refs argument.ty) where
+  module _ {b : Bool} (h : argument.default ≡ None) (g : b ≡ non_null refs argument.ty) where
     pub default_missing : {r : Coercion} → b ≡ true → r ≡ argument_fails error.MissingArgument argument → ChecksDefault refs literals argument r
     unfolding of_default default_argument is_non_null argument_error when error_of place_of place_among
     default_missing t f = record {
@@ -67,8 +65,8 @@ pub ruleset defaults = (default_part, default_missing, default_absent)
 
 -- ---- a variable
 
-module _ (refs nodes literals variables : List ℕ) (argument : Argument) (name : ℕ) {found : Optional} (e : found ≡ row_of (variable_named variables name)) where
-  pub variable_default : {r : Coercion} → found ≡ Absent → ChecksDefault refs literals argument r
+module _ (refs nodes literals variables : List ℕ) (argument : Argument) (name : ℕ) {found : Option ℕ} (e : found ≡ (variable_named variables name)) where
+  pub variable_default : {r : Coercion} → found ≡ None → ChecksDefault refs literals argument r
       → ChecksVariable refs nodes literals variables argument name r
   unfolding of_variable_argument variable_argument of_default
   variable_default h q = record {
@@ -77,7 +75,7 @@ module _ (refs nodes literals variables : List ℕ) (argument : Argument) (name 
     };
   }
 
-  module _ {v : ℕ} {b : Bool} (h : found ≡ Row v) (g : b ≡ null_against refs nodes variables argument.ty v) where
+  module _ {v : ℕ} {b : Bool} (h : found ≡ Some v) (g : b ≡ null_against refs nodes variables argument.ty v) where
     pub variable_null : {r : Coercion} → b ≡ true → r ≡ argument_fails error.NullArgument argument
         → ChecksVariable refs nodes literals variables argument name r
     unfolding of_variable_argument variable_argument argument_error when error_of place_of place_among
@@ -100,9 +98,9 @@ pub ruleset variabled = (variable_default, variable_null, variable_value_lem)
 
 -- ---- an argument
 
-module _ (refs types fields nodes literals variables arguments given : List ℕ) (written : Range) (row : ℕ) {argument : Argument} {found : Optional}
-    (a : argument ≡ argument_at arguments row) (e : found ≡ row_of (given_named given argument.name (rows_in written))) where
-  pub argument_default_lem : {r : Coercion} → found ≡ Absent → ChecksDefault refs literals argument r
+module _ (refs types fields nodes literals variables arguments given : List ℕ) (written : Range) (row : ℕ) {argument : Argument} {found : Option ℕ}
+    (a : argument ≡ argument_at arguments row) (e : found ≡ (given_named given argument.name (rows_in written))) where
+  pub argument_default_lem : {r : Coercion} → found ≡ None → ChecksDefault refs literals argument r
       → Checks (of_argument refs types fields nodes literals variables arguments given written row) r
   unfolding of_argument coerce_argument of_default
   argument_default_lem h q = record {
@@ -110,7 +108,7 @@ module _ (refs types fields nodes literals variables arguments given : List ℕ)
         rw (← a, not_found (given_named given argument.name (rows_in written)) e h) ((q.checks types fields nodes variables arguments given row a).ends pool names p);
   }
 
-  module _ {at : ℕ} {value : Given} {f : Form} (h : found ≡ Row at) (v : value ≡ given_at given at) (l : FormAt literals value.literal f) where
+  module _ {at : ℕ} {value : Given} {f : Form} (h : found ≡ Some at) (v : value ≡ given_at given at) (l : FormAt literals value.literal f) where
     module _ {b : Bool} (k : f ≡ form.Null) (g : b ≡ non_null refs argument.ty) where
       pub argument_null : {r : Coercion} → b ≡ true → r ≡ argument_fails error.NullArgument argument
           → Checks (of_argument refs types fields nodes literals variables arguments given written row) r

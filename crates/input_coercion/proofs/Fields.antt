@@ -2,15 +2,13 @@
 use mathlib.Core.Path.{◌≡◌, refl}
 use mathlib.Core.Bool.{Bool, true, false}
 use mathlib.Core.List.{List, map}
-use mathlib.Core.Option.{none, some}
+use Rattle.std.specs.Prelude.{Option, Some, None}
 use Prim.Native.Nat.{ℕ, zero, suc, ◌+◌, ◌-◌, ◌≤◌, ◌<◌}
 use native.Mathlib.Omega.{arith}
 use Rattle.rows.specs.Limits.{most_fields}
 use Rattle.rows.specs.Names.{name_text}
 use Rattle.rows.specs.Schema.{field_at}
 use Rattle.rows.specs.declared.layout.Range.{Range}
-use Rattle.rows.specs.declared.layout.Optional.{Optional}
-use Rattle.rows.specs.declared.layout.Optional.TheVariants.{Absent, Row}
 use Rattle.rows.specs.declared.schema.Field.{Field}
 use Rattle.codes.specs.declared.errors.FieldError.TheVariants as error
 use Rattle.graphql.specs.Run.{pure, when, ◌>>=◌}
@@ -19,7 +17,6 @@ use Rattle.graphql.specs.Json.{array, object, items, members}
 use Rattle.graphql.specs.Lookup.{rows_from, rows_in, non_null}
 use Rattle.graphql.specs.Values.{opened, part_by_part}
 use Rattle.graphql.specs.Coerce.{coerce_items, input_field, input_fields}
-use Rattle.lookup.specs.Found.{row_of}
 use Rattle.input_coercion.specs.Ends.{literal_fails, Checks}
 use Rattle.input_coercion.specs.Coerced.{given_for, inside, of_part, of_value, of_items, of_field, of_fields}
 use Rattle.input_coercion.specs.declared.check.Coercion.{Coercion}
@@ -67,22 +64,22 @@ module _ (refs types fields nodes literals variables : List ℕ) where
 
   -- ---- a field
 
-  module _ (room row : ℕ) (given : List ℕ) (field : ℕ) {found : Optional} {def : Field} (e : found ≡ row_of (given_for fields literals given field))
+  module _ (room row : ℕ) (given : List ℕ) (field : ℕ) {found : Option ℕ} {def : Field} (e : found ≡ (given_for fields literals given field))
       (d : def ≡ field_at fields field) where
-    pub field_given : {literal : ℕ} {r : Coercion} → found ≡ Row literal → Checks (of_value refs types fields nodes literals variables room def.ty literal) r
+    pub field_given : {literal : ℕ} {r : Coercion} → found ≡ Some literal → Checks (of_value refs types fields nodes literals variables room def.ty literal) r
         → Checks (of_field refs types fields nodes literals variables room row given field) r
     unfolding of_field input_field inside of_value
-    field_given {r = r'} h q = record { ends = λ pool names p. rw (is_found_lem (given_for fields literals given field) e h, ← d) (ends_made p _ some r' (q.ends pool names p)) }
+    field_given {r = r'} h q = record { ends = λ pool names p. rw (is_found_lem (given_for fields literals given field) e h, ← d) (ends_made p _ Some r' (q.ends pool names p)) }
 
-    module _ (h : found ≡ Absent) where
-      pub field_default_lem : {default : ℕ} {r : Coercion} → def.default ≡ Row default → Checks (of_part literals room default) r
+    module _ (h : found ≡ None) where
+      pub field_default_lem : {default : ℕ} {r : Coercion} → def.default ≡ Some default → Checks (of_part literals room default) r
           → Checks (of_field refs types fields nodes literals variables room row given field) r
       unfolding of_field input_field of_part
       field_default_lem {default = default'} {r = r'} k q =
           let s : suc room - 1 ≡ room = omega arith in
-          record { ends = λ pool names p. rw (not_found (given_for fields literals given field) e h, ← d, k, s) (ends_made p (part_by_part pool names literals room default') some r' (q.ends pool names p)) }
+          record { ends = λ pool names p. rw (not_found (given_for fields literals given field) e h, ← d, k, s) (ends_made p (part_by_part pool names literals room default') Some r' (q.ends pool names p)) }
 
-      module _ {b : Bool} (k : def.default ≡ Absent) (g : b ≡ non_null refs def.ty) where
+      module _ {b : Bool} (k : def.default ≡ None) (g : b ≡ non_null refs def.ty) where
         pub field_missing : {r : Coercion} → b ≡ true → r ≡ literal_fails literals error.MissingInputField row
             → Checks (of_field refs types fields nodes literals variables room row given field) r
         unfolding of_field input_field when place_of
@@ -92,7 +89,7 @@ module _ (refs types fields nodes literals variables : List ℕ) where
 
         pub field_absent : b ≡ false → Checks (of_field refs types fields nodes literals variables room row given field) coercion.Value
         unfolding of_field input_field when
-        field_absent t = record { ends = λ pool names p. rw (not_found (given_for fields literals given field) e h, ← d, k, ← d, ← g, t) (value_pure none) }
+        field_absent t = record { ends = λ pool names p. rw (not_found (given_for fields literals given field) e h, ← d, k, ← d, ← g, t) (value_pure None) }
 
   -- ---- the fields of an input object
 

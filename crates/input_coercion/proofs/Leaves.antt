@@ -3,7 +3,7 @@
 use mathlib.Core.Path.{◌≡◌, refl, sym, ◌∙◌}
 use mathlib.Core.Bool.{Bool, false}
 use mathlib.Core.List.{List, [], ◌∷◌}
-use mathlib.Core.Option.{Option, none, some}
+use Rattle.std.specs.Prelude.{Option, Some, None}
 use Prim.Native.Nat.{ℕ, ◌<◌}
 use native.Mathlib.Omega.{arith}
 use types.Run.{miss}
@@ -11,8 +11,6 @@ use borrow.Enum.Refused.{Among, opened, shut}
 use denote.Enum.Declared.{tag_of}
 use Rattle.rows.specs.Json.{node_at, literal_at, variable_at}
 use Rattle.rows.specs.declared.layout.Range.{Range}
-use Rattle.rows.specs.declared.layout.Optional.{Optional}
-use Rattle.rows.specs.declared.layout.Optional.TheVariants.{Absent, Row}
 use Rattle.rows.specs.declared.json.Node.{Node}
 use Rattle.rows.specs.declared.json.Node.TheVariants as node
 use Rattle.rows.specs.declared.json.Literal.{Literal}
@@ -24,7 +22,6 @@ use Rattle.graphql.specs.Lookup.{rows_from, rows_in, non_null}
 use Rattle.graphql.specs.Values.{node_form, literal_form}
 use Rattle.graphql.specs.Values as defined
 use Rattle.graphql.specs.Coerce.{is_null_form, items_of, null_against}
-use Rattle.lookup.specs.Found.{row_of}
 use Rattle.input_coercion.specs.Coerced.{shape_meant, FormAt, ItemsAt, Listable}
 use Rattle.input_coercion.specs.declared.check.Shape.{Shape}
 use Rattle.input_coercion.specs.declared.check.Shape.TheVariants as shape
@@ -32,19 +29,19 @@ use Rattle.input_coercion.specs.declared.check.Form.TheVariants as form
 use Rattle.input_coercion.specs.contracts.check.Shape.{the_type as shape_type}
 
 -- what was looked for is there or not
-pub not_found : (o : Option ℕ) {found : Optional} → found ≡ row_of o → found ≡ Absent → o ≡ none
+pub not_found : (o : Option ℕ) {found : Option ℕ} → found ≡ o → found ≡ None → o ≡ None
 not_found o e h = go o (sym h ∙ e)
   where
-    go : (o : Option ℕ) → Absent ≡ row_of o → o ≡ none
-    go none h = refl
-    go (some f) h = absurd (let z : ◌≡◌ {A = ℕ} 0 1 = cc in omega arith)
+    go : (o : Option ℕ) → None ≡ o → o ≡ None
+    go None h = refl
+    go (Some f) h = absurd (let z : ◌≡◌ {A = ℕ} 0 1 = cc in omega arith)
 
-pub is_found_lem : (o : Option ℕ) {found : Optional} {row : ℕ} → found ≡ row_of o → found ≡ Row row → o ≡ some row
+pub is_found_lem : (o : Option ℕ) {found : Option ℕ} {row : ℕ} → found ≡ o → found ≡ Some row → o ≡ Some row
 is_found_lem o {row = row} e h = go o (sym h ∙ e)
   where
-    go : (o : Option ℕ) → Row row ≡ row_of o → o ≡ some row
-    go none h = absurd (let z : ◌≡◌ {A = ℕ} 0 1 = cc in omega arith)
-    go (some f) h = let s : f ≡ row = cc in rw s
+    go : (o : Option ℕ) → Some row ≡ o → o ≡ Some row
+    go None h = absurd (let z : ◌≡◌ {A = ℕ} 0 1 = cc in omega arith)
+    go (Some f) h = let s : f ≡ row = cc in rw s
 
 -- ---- a variable that is null
 

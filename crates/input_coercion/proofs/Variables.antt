@@ -3,15 +3,13 @@ use mathlib.Core.Path.{◌≡◌, refl}
 use mathlib.Core.Bool.{Bool, true, false}
 use mathlib.Core.List.{List}
 use Prim.Native.Nat.{ℕ}
-use Rattle.rows.specs.declared.layout.Optional.{Optional}
-use Rattle.rows.specs.declared.layout.Optional.TheVariants.{Absent, Row}
+use Rattle.std.specs.Prelude.{Option, Some, None}
 use Rattle.codes.specs.declared.errors.FieldError.TheVariants as error
 use Rattle.graphql.specs.Run.{when}
 use Rattle.codes.specs.Errors.{place_of}
 use Rattle.graphql.specs.Json.{null}
 use Rattle.graphql.specs.Lookup.{non_null, variable_named}
 use Rattle.graphql.specs.Coerce.{null_against, coerce_variable}
-use Rattle.lookup.specs.Found.{row_of}
 use Rattle.input_coercion.specs.Ends.{literal_fails}
 use Rattle.input_coercion.specs.Coerced.{Valuable, of_variable, ChecksInner}
 use Rattle.input_coercion.specs.declared.check.Coercion.{Coercion}
@@ -19,8 +17,8 @@ use Rattle.input_coercion.specs.declared.check.Coercion.TheVariants as coercion
 use Rattle.input_coercion.proofs.Ends.{value_pure, fails}
 use Rattle.input_coercion.proofs.Leaves.{not_found, is_found_lem}
 
-module _ (refs nodes literals variables : List ℕ) (ty row name : ℕ) {found : Optional} (e : found ≡ row_of (variable_named variables name)) {b : Bool} where
-  module _ (h : found ≡ Absent) (g : b ≡ non_null refs ty) where
+module _ (refs nodes literals variables : List ℕ) (ty row name : ℕ) {found : Option ℕ} (e : found ≡ (variable_named variables name)) {b : Bool} where
+  module _ (h : found ≡ None) (g : b ≡ non_null refs ty) where
     pub inner_missing : {r : Coercion} → b ≡ true → r ≡ literal_fails literals error.MissingVariable row
         → ChecksInner refs nodes literals variables ty row name r
     unfolding of_variable coerce_variable when place_of
@@ -34,7 +32,7 @@ module _ (refs nodes literals variables : List ℕ) (ty row name : ℕ) {found :
     unfolding of_variable coerce_variable when
     inner_absent t = record { checks = λ types fields. record { ends = λ pool names p. rw (not_found (variable_named variables name) e h, ← g, t) (value_pure null) } }
 
-  module _ {v : ℕ} (h : found ≡ Row v) (g : b ≡ null_against refs nodes variables ty v) where
+  module _ {v : ℕ} (h : found ≡ Some v) (g : b ≡ null_against refs nodes variables ty v) where
     pub inner_null : {r : Coercion} → b ≡ true → r ≡ literal_fails literals error.NullVariable row
         → ChecksInner refs nodes literals variables ty row name r
     unfolding of_variable coerce_variable when place_of

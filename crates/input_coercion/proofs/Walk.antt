@@ -2,7 +2,7 @@
 use mathlib.Core.Path.{◌≡◌, refl}
 use mathlib.Core.Bool.{Bool, true, false}
 use mathlib.Core.List.{List, [], ◌∷◌}
-use mathlib.Core.Option.{Option, none, some}
+use Rattle.std.specs.Prelude.{Option, Some, None}
 use Prim.Native.Nat.{ℕ, zero, suc, ◌+◌, ◌≤◌}
 use native.Mathlib.Omega.{arith}
 use types.Run.{miss}
@@ -12,8 +12,6 @@ use Rattle.rows.specs.Limits.{most_literals, most_fields}
 use Rattle.rows.specs.Schema.{type_ref_at, type_at}
 use Rattle.rows.specs.Json.{literal_at}
 use Rattle.rows.specs.declared.layout.Range.{Range}
-use Rattle.rows.specs.declared.layout.Optional.{Optional}
-use Rattle.rows.specs.declared.layout.Optional.TheVariants.{Absent, Row}
 use Rattle.rows.specs.declared.schema.TypeRef.{TypeRef}
 use Rattle.rows.specs.declared.schema.TypeRef.TheVariants as ref
 use Rattle.rows.specs.declared.schema.TypeKind.{TypeKind}
@@ -27,7 +25,7 @@ use Rattle.graphql.specs.Json.{null}
 use Rattle.graphql.specs.Lookup.{rows_in, non_null, type_named}
 use Rattle.graphql.specs.Values.{literal_form}
 use Rattle.graphql.specs.Coerce.{is_input_object, unknown_key, known_object, input_object, coerce_named, coerce_shape, coerce_literal, coerce_argument_value}
-use Rattle.lookup.specs.Found.{row_of, is_found}
+use Rattle.lookup.specs.Found.{is_found}
 use Rattle.input_coercion.specs.Ends.{literal_fails, Ends, Checks}
 use Rattle.input_coercion.specs.Coerced.{FormAt, Listable, ItemsAt, Coercible, inside, of_part, of_value, of_variable, of_items, of_fields, of_object, of_named, of_shape, ChecksInner}
 use Rattle.input_coercion.specs.declared.check.Coercion.{Coercion}
@@ -64,13 +62,13 @@ module _ {types nodes literals variables : List ℕ} (w : Coercible types nodes 
 
 -- ---- whether a key is unknown
 
-all_known : (o : Option ℕ) → false ≡ is_found o → o ≡ none
-all_known none h = refl
-all_known (some key) h = absurd (let z : ◌≡◌ {A = ℕ} 0 1 = cc in omega arith)
+all_known : (o : Option ℕ) → false ≡ is_found o → o ≡ None
+all_known None h = refl
+all_known (Some key) h = absurd (let z : ◌≡◌ {A = ℕ} 0 1 = cc in omega arith)
 
-one_unknown : (o : Option ℕ) → true ≡ is_found o → (key : ℕ) × (o ≡ some key)
-one_unknown none h = absurd (let z : ◌≡◌ {A = ℕ} 0 1 = cc in omega arith)
-one_unknown (some key) h = (key, refl)
+one_unknown : (o : Option ℕ) → true ≡ is_found o → (key : ℕ) × (o ≡ Some key)
+one_unknown None h = absurd (let z : ◌≡◌ {A = ℕ} 0 1 = cc in omega arith)
+one_unknown (Some key) h = (key, refl)
 
 -- ---- kinds of types
 
@@ -118,18 +116,18 @@ module _ (refs types fields nodes literals variables : List ℕ) (room : ℕ) wh
           → Checks (of_object refs types fields nodes literals variables room type row s) r
       unfolding of_object input_object known_object of_fields
       object_known t d q =
-          let k : unknown_key types fields literals type (rows_in given) ≡ none = all_known (unknown_key types fields literals type (rows_in given)) (rw t at e) in
+          let k : unknown_key types fields literals type (rows_in given) ≡ None = all_known (unknown_key types fields literals type (rows_in given)) (rw t at e) in
           record { ends = λ pool names p. rw (h, k, ← d) (q.ends pool names p) }
 
   -- ---- a named type
 
-  module _ (row : ℕ) (s : Shape) (name : ℕ) {found : Optional} (e : found ≡ row_of (type_named types name)) {r : Coercion} where
-    pub named_undefined : found ≡ Absent → r ≡ literal_fails literals error.UndefinedInputType row
+  module _ (row : ℕ) (s : Shape) (name : ℕ) {found : Option ℕ} (e : found ≡ (type_named types name)) {r : Coercion} where
+    pub named_undefined : found ≡ None → r ≡ literal_fails literals error.UndefinedInputType row
         → Checks (of_named refs types fields nodes literals variables room row s name) r
     unfolding of_named coerce_named place_of
     named_undefined h f = record { ends = λ pool names p. rw (not_found (type_named types name) e h, f) (fails literals error.UndefinedInputType row p refl) }
 
-    module _ {type : ℕ} {def : TypeDef} (h : found ≡ Row type) (d : def ≡ type_at types type) where
+    module _ {type : ℕ} {def : TypeDef} (h : found ≡ Some type) (d : def ≡ type_at types type) where
       pub named_other : Among other_kinds (tag_of kind_type def.kind) → Checks (of_part literals room row) r
           → Checks (of_named refs types fields nodes literals variables room row s name) r
       unfolding of_named coerce_named when of_part

@@ -1,7 +1,7 @@
 -- What the functions of the check stand for: a run of the definition each, with `inside` the coercion one container further in. And what they
 -- need of the tables.
 use Rattle.std.specs.Prelude.{◌≡◌, List, ℕ, zero, suc, ◌+◌, ◌≤◌, eqb}
-use Rattle.std.proofs.Math.Option.{Option}
+use Rattle.std.specs.Prelude.{Option}
 use Rattle.rows.specs.Limits.{most_literals, most_fields}
 use Rattle.rows.specs.Schema.{type_ref_at, type_at, field_at, argument_at}
 use Rattle.rows.specs.Document.{given_at}

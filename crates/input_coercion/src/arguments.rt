@@ -2,7 +2,6 @@
 ghost use Rattle.std.specs.Prelude.{◌≡◌, ◌+◌, ◌≤◌};
 ghost use Rattle.rows.specs.Limits.{most_rows};
 ghost use Rattle.graphql.specs.Lookup.{rows_in};
-ghost use Rattle.lookup.specs.Found.{row_of};
 ghost use Rattle.input_coercion.specs.Ends.{argument_fails, Checks};
 ghost use Rattle.input_coercion.specs.Coerced.{Parted, Valuable, Coercible, given_named, of_argument, of_arguments, ChecksDefault, ChecksVariable};
 
@@ -14,16 +13,16 @@ use lookup::find::find_word;
 use lookup::named::{is_non_null, variable_named};
 use rows::columns::GIVEN_NAME;
 use rows::document::{GIVEN_WIDTH, given_at};
-use rows::layout::{Optional, Range};
+use rows::layout::Range;
 use rows::schema::{Argument, argument_at};
 
 // "33 open containers in a leaf or literal"
 pub const MOST_OPEN: u32 = 32;
 
 // The row of `given` that has the argument's name, if there is one.
-pub fn given_argument(given: &[u32], written: Range, name: u32) -> Optional
+pub fn given_argument(given: &[u32], written: Range, name: u32) -> Option<u32>
     requires { written.first + written.count ≤ most_rows }
-    ensures { result ≡ row_of (given_named given.now name (rows_in written)) }
+    ensures { result ≡ given_named given.now name (rows_in written) }
 {
     find_word(given, GIVEN_WIDTH, GIVEN_NAME, written, name)
 }
@@ -45,8 +44,8 @@ fn default_argument(type_refs: &[u32], literals: &[u32], argument: Argument) -> 
 {
     let default = argument.default;
     match default {
-        Optional::Row(value) => check_part_by_part(literals, MOST_OPEN, value),
-        Optional::Absent => {
+        Some(value) => check_part_by_part(literals, MOST_OPEN, value),
+        None => {
             if is_non_null(type_refs, argument.ty) {
                 return fail_argument(FieldError::MissingArgument, argument);
             }
@@ -67,7 +66,7 @@ fn variable_argument(
     requires valuable { Valuable nodes.now variables.now }
     ensures { ChecksVariable type_refs.now nodes.now literals.now variables.now argument name result }
 {
-    let Optional::Row(variable) = variable_named(variables, name) else {
+    let Some(variable) = variable_named(variables, name) else {
         return default_argument(type_refs, literals, argument);
     };
     if null_against(type_refs, nodes, variables, argument.ty, variable) {
@@ -93,7 +92,7 @@ fn coerce_argument(
     ensures { Checks (of_argument type_refs.now types.now fields.now nodes.now literals.now variables.now arguments.now given.now written row) result }
 {
     let argument = argument_at(arguments, row);
-    let Optional::Row(at) = given_argument(given, written, argument.name) else {
+    let Some(at) = given_argument(given, written, argument.name) else {
         return default_argument(type_refs, literals, argument);
     };
     let value = given_at(given, at);

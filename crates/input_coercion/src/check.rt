@@ -4,7 +4,7 @@ ghost use Rattle.rows.specs.Limits.{most_literals, most_fields};
 ghost use Rattle.rows.specs.Schema.{type_at};
 ghost use Rattle.graphql.specs.Lookup.{rows_in};
 ghost use Rattle.graphql.specs.Coerce.{null_against, unknown_key};
-ghost use Rattle.lookup.specs.Found.{row_of, is_found};
+ghost use Rattle.lookup.specs.Found.{is_found};
 ghost use Rattle.input_coercion.specs.Ends.{literal_fails, Checks};
 ghost use Rattle.input_coercion.specs.Coerced.{FormAt, ItemsAt, Listable, Parted, Valuable, Coercible, of_part, of_parts, given_for, of_value, ChecksInner, of_items, of_field, of_fields, of_object, of_named, of_shape};
 
@@ -15,7 +15,7 @@ use rows::columns::LITERAL_KEY;
 use rows::json::{
     LITERAL_WIDTH, Literal, Node, literal_at, literal_key, literal_place, node_at, variable_at,
 };
-use rows::layout::{Optional, Range};
+use rows::layout::Range;
 use rows::schema::{TypeKind, TypeRef, field_at, type_at, type_ref_at};
 
 // An error and its place.
@@ -107,13 +107,13 @@ fn coerce_variable(
     ensures { ChecksInner type_refs.now nodes.now literals.now variables.now ty row name result }
 {
     match variable_named(variables, name) {
-        Optional::Absent => {
+        None => {
             if is_non_null(type_refs, ty) {
                 return fail_at(literals, FieldError::MissingVariable, row);
             }
             Coercion::Value
         }
-        Optional::Row(variable) => {
+        Some(variable) => {
             if null_against(type_refs, nodes, variables, ty, variable) {
                 return fail_at(literals, FieldError::NullVariable, row);
             }
@@ -207,9 +207,9 @@ fn coerce_items(
 }
 
 // The literal that an object literal gives for a field, if it gives one.
-pub fn given_for(fields: &[u32], literals: &[u32], given: Range, field: u32) -> Optional
+pub fn given_for(fields: &[u32], literals: &[u32], given: Range, field: u32) -> Option<u32>
     requires { given.first + given.count ≤ most_literals }
-    ensures { result ≡ row_of (given_for fields.now literals.now (rows_in given) field) }
+    ensures { result ≡ given_for fields.now literals.now (rows_in given) field }
 {
     let def = field_at(fields, field);
     find_word(literals, LITERAL_WIDTH, LITERAL_KEY, given, def.name)
@@ -235,15 +235,15 @@ fn input_field(
 {
     let def = field_at(fields, field);
     let ty = def.ty;
-    if let Optional::Row(literal) = given_for(fields, literals, given, field) {
+    if let Some(literal) = given_for(fields, literals, given, field) {
         return coerce_argument_value(
             type_refs, types, fields, nodes, literals, variables, room, ty, literal,
         );
     }
     let default = def.default;
     match default {
-        Optional::Row(value) => check_part_by_part(literals, room, value),
-        Optional::Absent => {
+        Some(value) => check_part_by_part(literals, room, value),
+        None => {
             if is_non_null(type_refs, ty) {
                 return fail_at(literals, FieldError::MissingInputField, row);
             }
@@ -309,7 +309,7 @@ fn has_unknown_key(types: &[u32], fields: &[u32], literals: &[u32], ty: u32, giv
     let mut i: u32 = 0;
     while i < count {
         let key = literal_key(literals, first + i);
-        let Optional::Row(_) = field_named(types, fields, ty, key) else {
+        let Some(_) = field_named(types, fields, ty, key) else {
             return true;
         };
         i += 1;
@@ -366,7 +366,7 @@ fn coerce_named(
     requires form_at { FormAt literals.now row (Form.Shaped shape) }
     ensures { Checks (of_named type_refs.now types.now fields.now nodes.now literals.now variables.now room row shape name) result }
 {
-    let Optional::Row(ty) = type_named(types, name) else {
+    let Some(ty) = type_named(types, name) else {
         return fail_at(literals, FieldError::UndefinedInputType, row);
     };
     let def = type_at(types, ty);

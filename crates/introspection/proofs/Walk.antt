@@ -11,8 +11,7 @@ use lib.ListN.{length, get_or, set, length-set}
 use borrow.Author.Tests.{eq-eqb, ne_eqb, le-leb, lt-leb, lt-ltb, le-ltb}
 use Rattle.rows.specs.Document.{set_at, selection_at, fragment_at}
 use Rattle.rows.specs.declared.layout.Range.{Range}
-use Rattle.rows.specs.declared.layout.Optional.{Optional}
-use Rattle.rows.specs.declared.layout.Optional.TheVariants.{Absent, Row}
+use Rattle.std.specs.Prelude.{Option, Some, None}
 use Rattle.rows.specs.declared.document.FieldSelection.{FieldSelection}
 use Rattle.rows.specs.declared.document.Selected.TheVariants.{Field, Spread, Inline, Unknown}
 use Rattle.rows.specs.declared.document.Selection.{Selection}
@@ -21,7 +20,6 @@ use Rattle.rows.proofs.Every.{falsified, verified}
 use Rattle.graphql.specs.Lookup.{rows_from, rows_in, selections_of, fragment_named}
 use Rattle.graphql.specs.Depth.{Rises, and_then, child_set, check_field, met_again, remembered, check_fragment, check_spread, check_selected, check_selections, check_set}
 use Rattle.graphql.specs.Depth as defined
-use Rattle.lookup.specs.Found.{row_of}
 use Rattle.lookup.proofs.Fragments.{found_none, found_some, row_below}
 use Rattle.introspection.specs.MaxDepth.{Marked, Checks, Walkable, ChecksSet, ChecksSelection, ChecksField, ChecksChild, ChecksSpread}
 use Rattle.introspection.specs.declared.max_depth.Checked.{Checked}
@@ -35,8 +33,8 @@ pub walk_on : {sets fragments marks marks' : List ℕ} {d d' : ℕ} → Walkable
 walk_on w e l = record { within = w.within; few = w.few; marked = e ∙ w.marked; shallow = l }
 
 -- a fragment that is there has a mark, and keeps it
-module _ {sets fragments marks : List ℕ} (name : ℕ) {sofar row : ℕ} {found : Optional} (w : Walkable sets fragments marks sofar)
-    (e : found ≡ row_of (fragment_named fragments name)) (h : found ≡ Row row) where
+module _ {sets fragments marks : List ℕ} (name : ℕ) {sofar row : ℕ} {found : Option ℕ} (w : Walkable sets fragments marks sofar)
+    (e : found ≡ (fragment_named fragments name)) (h : found ≡ Some row) where
   pub mark_there : row < length marks
   mark_there = omega (arith, row_below fragments name row (found_some (fragment_named fragments name) e h), w.few, w.marked)
 
@@ -106,7 +104,7 @@ module _ (sets selections fragments : List ℕ) (room : ℕ) {marks : List ℕ} 
     unfolding check_selected
     a_spread w q = rw (← e, w) q
 
-    pub an_inline : {type : Optional} {inner : ℕ} → s.what ≡ Inline type inner → ChecksSet sets selections fragments marks room inner sofar r marks'
+    pub an_inline : {type : Option ℕ} {inner : ℕ} → s.what ≡ Inline type inner → ChecksSet sets selections fragments marks room inner sofar r marks'
         → ChecksSelection sets selections fragments marks room row sofar r marks'
     unfolding check_selected
     an_inline w q = rw (← e, w) q
@@ -118,12 +116,12 @@ module _ (sets selections fragments : List ℕ) (room : ℕ) {marks : List ℕ} 
 
   -- ---- a spread
 
-  module _ (place name sofar : ℕ) {found : Optional} (e : found ≡ row_of (fragment_named fragments name)) where
-    pub spread_undefined : found ≡ Absent → ChecksSpread sets selections fragments marks room place name sofar (Depth sofar) marks
+  module _ (place name sofar : ℕ) {found : Option ℕ} (e : found ≡ (fragment_named fragments name)) where
+    pub spread_undefined : found ≡ None → ChecksSpread sets selections fragments marks room place name sofar (Depth sofar) marks
     unfolding check_spread
     spread_undefined h = rw (found_none (fragment_named fragments name) e h) (level fragments (λ rises. defined.depth sofar rises) sofar (λ rises m. refl))
 
-    module _ {row : ℕ} (h : found ≡ Row row) where
+    module _ {row : ℕ} (h : found ≡ Some row) where
       pub again_deep : (get_or marks row 0 ≡ 0 → ⊥) → sofar < 3 → 3 - sofar < get_or marks row 0 - 1
           → ChecksSpread sets selections fragments marks room place name sofar (TooDeep place) marks
       unfolding check_spread check_fragment met_again

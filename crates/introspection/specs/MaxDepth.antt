@@ -1,6 +1,6 @@
 -- What the functions of the depth check ensure, by the definition of the depth check.
 use Rattle.std.specs.Prelude.{◌≡◌, List, [], ℕ, ◌+◌, ◌≤◌, ◌<◌, length, get_or}
-use Rattle.std.proofs.Math.Option.{Option, none, some}
+use Rattle.std.specs.Prelude.{Option, Some, None}
 use Rattle.rows.specs.Layout.{fragment_width}
 use Rattle.rows.specs.Rows.{rows_of}
 use Rattle.rows.specs.Document.{set_at, selection_at}
@@ -36,12 +36,12 @@ meant (Depth d) = defined.depth d []
 
 -- a fragment's mark: 0 where it was not met, and otherwise one more than its rise
 abbrev pub mark_of : Option ℕ → ℕ
-mark_of none = 0
-mark_of (some rise) = rise + 1
+mark_of None = 0
+mark_of (Some rise) = rise + 1
 
 -- the marks, one for each row of the fragments, say what is remembered by name
 pub record Marked (fragments : List ℕ) (marks : List ℕ) (rises : Rises) : Type 0 where
-  pub marked : (name row : ℕ) → fragment_named fragments name ≡ some row → get_or marks row 0 ≡ mark_of (rise_of name rises)
+  pub marked : (name row : ℕ) → fragment_named fragments name ≡ Some row → get_or marks row 0 ≡ mark_of (rise_of name rises)
 
 abbrev pub Remembers : List ℕ → List ℕ → defined.Checked → Type 0
 Remembers fragments marks defined.too_many_sets = Unit {0}

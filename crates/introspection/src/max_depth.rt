@@ -8,7 +8,7 @@ ghost use Rattle.introspection.specs.MaxDepth.{Answers, meant, Walkable, ChecksS
 use codes::outcome::Outcome;
 use lookup::named::fragment_named;
 use rows::document::{FieldSelection, Selected, fragment_at, selection_at, set_at};
-use rows::layout::{Optional, both};
+use rows::layout::both;
 use tables::check::{LAWFUL, table_check};
 
 const MAX_LISTS_DEPTH: u32 = 3;
@@ -220,7 +220,7 @@ fn check_spread(
     ensures { ChecksSpread sets.now selections.now fragments.now marks.old room place name depth_so_far result marks.new }
 {
     let found = fragment_named(fragments, name);
-    let Optional::Row(row) = found else {
+    let Some(row) = found else {
         return Checked::Depth(depth_so_far);
     };
     let at = row as usize;

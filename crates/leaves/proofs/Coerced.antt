@@ -2,7 +2,7 @@
 use mathlib.Core.Path.{◌≡◌, refl}
 use mathlib.Core.Bool.{Bool, true, false}
 use mathlib.Core.List.{List}
-use mathlib.Core.Option.{Option, none, some}
+use Rattle.std.specs.Prelude.{Option, Some, None}
 use Prim.Native.Nat.{ℕ, zero, suc}
 use Rattle.rows.specs.Schema.{type_ref_at, type_at}
 use Rattle.rows.specs.Json.{literal_at}
@@ -44,8 +44,8 @@ module _ (pool names refs types fields nodes literals variables : List ℕ) (ty 
     object_known : (type : ℕ) (given : List ℕ) (o : Option ℕ)
         → Comes (known_object pool names refs types fields nodes literals variables most_open deeper p type row given o) j → sort_of j ≡ a_container
     unfolding known_object input_fields sort_of
-    object_known type given none q = put_together most_open _ _ (λ js. refl) q
-    object_known type given (some key) q = absurd (comes_failed literals error.UnknownKey row p q)
+    object_known type given None q = put_together most_open _ _ (λ js. refl) q
+    object_known type given (Some key) q = absurd (comes_failed literals error.UnknownKey row p q)
 
     is_object_lem : (type : ℕ) (s : Shape)
         → Comes (input_object pool names refs types fields nodes literals variables most_open deeper p type row s) j → sort_of j ≡ a_container
@@ -63,8 +63,8 @@ module _ (pool names refs types fields nodes literals variables : List ℕ) (ty 
       of_named : (name : ℕ) (nullable : Bool) → type_ref_at refs ty ≡ ref.Named name nullable → (o : Option ℕ) → type_named types name ≡ o
           → Comes (coerce_named pool names refs types fields nodes literals variables most_open deeper p row s o) j → Became
       unfolding coerce_named when is_container named_container
-      of_named name nullable e none i q = absurd (comes_failed literals error.UndefinedInputType row p q)
-      of_named name nullable e (some type) i q = go (is_input_object (type_at types type).kind) refl q
+      of_named name nullable e None i q = absurd (comes_failed literals error.UndefinedInputType row p q)
+      of_named name nullable e (Some type) i q = go (is_input_object (type_at types type).kind) refl q
         where
           go : (b : Bool) → is_input_object (type_at types type).kind ≡ b
               → Comes (when b (input_object pool names refs types fields nodes literals variables most_open deeper p type row s)

@@ -8,8 +8,7 @@ use borrow.Enum.Refused.{Among, opened, shut}
 use denote.Enum.Declared.{tag_of}
 use Rattle.rows.specs.Schema.{type_ref_at, type_at}
 use Rattle.rows.specs.Json.{node_at, literal_at}
-use Rattle.rows.specs.declared.layout.Optional.{Optional}
-use Rattle.rows.specs.declared.layout.Optional.TheVariants.{Absent, Row}
+use Rattle.std.specs.Prelude.{Option, Some, None}
 use Rattle.rows.specs.declared.schema.TypeRef.{TypeRef}
 use Rattle.rows.specs.declared.schema.TypeRef.TheVariants as ref
 use Rattle.rows.specs.declared.schema.TypeKind.TheVariants as kind
@@ -20,7 +19,6 @@ use Rattle.codes.specs.Outcome.{most_open}
 use Rattle.graphql.specs.Json.{Json, sort_of}
 use Rattle.graphql.specs.Lookup.{type_named}
 use Rattle.graphql.specs.Coerce.{is_input_object}
-use Rattle.lookup.specs.Found.{row_of}
 use Rattle.input_coercion.specs.Coerced.{form_meant, FormAt}
 use Rattle.input_coercion.specs.declared.check.Form.{Form}
 use Rattle.input_coercion.specs.declared.check.Form.TheVariants as form
@@ -53,12 +51,12 @@ module _ (refs types : List ℕ) (ty : ℕ) {t : TypeRef} (e : t ≡ type_ref_at
       go (ref.ListOf inner nullable) o = refl
       go ref.Unknown o = refl
 
-  module _ {name : ℕ} {nullable : Bool} {found : Optional} (h : t ≡ ref.Named name nullable) (f : found ≡ row_of (type_named types name)) where
-    pub container_undefined : found ≡ Absent → false ≡ is_container types (type_ref_at refs ty)
+  module _ {name : ℕ} {nullable : Bool} {found : Option ℕ} (h : t ≡ ref.Named name nullable) (f : found ≡ (type_named types name)) where
+    pub container_undefined : found ≡ None → false ≡ is_container types (type_ref_at refs ty)
     unfolding is_container named_container
     container_undefined n = rw (← e, h, not_found (type_named types name) f n)
 
-    module _ {type : ℕ} {def : TypeDef} (n : found ≡ Row type) (d : def ≡ type_at types type) where
+    module _ {type : ℕ} {def : TypeDef} (n : found ≡ Some type) (d : def ≡ type_at types type) where
       pub container_other : Among other_kinds (tag_of kind_type def.kind) → false ≡ is_container types (type_ref_at refs ty)
       unfolding is_container named_container
       container_other o = rw (← e, h, is_found_lem (type_named types name) f n, ← d, other_kind def.kind o)

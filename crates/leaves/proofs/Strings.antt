@@ -2,7 +2,7 @@
 use mathlib.Core.Path.{◌≡◌, refl}
 use mathlib.Core.Bool.{true, false}
 use mathlib.Core.List.{List, [], ◌∷◌}
-use mathlib.Core.Option.{some}
+use Rattle.std.specs.Prelude.{Some}
 use Prim.Native.Nat.{ℕ, ◌+◌, ◌*◌}
 use native.Mathlib.Omega.{arith}
 use types.Run.{miss}
@@ -98,13 +98,13 @@ pub ruleset literaling = (literal_string, literal_enum, literal_other, shut)
 
 -- ---- the bytes are those of the value
 
-module _ (j : Json) (s : List ℕ) (e : string_of j ≡ some s) where
+module _ (j : Json) (s : List ℕ) (e : string_of j ≡ Some s) where
   -- a string is no container
   no_container : sort_of j ≡ a_container → ⊥
   unfolding sort_of string_of
   no_container = go j e
     where
-      go : (j : Json) → string_of j ≡ some s → sort_of j ≡ a_container → ⊥
+      go : (j : Json) → string_of j ≡ Some s → sort_of j ≡ a_container → ⊥
       go null e h = let z : ◌≡◌ {A = ℕ} 0 1 = cc in omega arith
       go (bool b) e h = let z : ◌≡◌ {A = ℕ} 0 1 = cc in omega arith
       go (natural n) e h = let z : ◌≡◌ {A = ℕ} 0 1 = cc in omega arith

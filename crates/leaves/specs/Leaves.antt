@@ -1,7 +1,7 @@
 -- A leaf that a resolver gave, as the code names it, and its value by the definition. A value is not built: what is read and written of it is what
 -- the definition's value has.
 use Rattle.std.specs.Prelude.{◌≡◌, List, ℕ, suc, length}
-use Rattle.std.proofs.Math.Option.{some}
+use Rattle.std.specs.Prelude.{Some}
 use Rattle.rows.specs.Layout.{node_width}
 use Rattle.rows.specs.Rows.{rows_of}
 use Rattle.rows.specs.Names.{name_text}
@@ -45,4 +45,4 @@ pub record SortsLeaf (refs types nodes literals : List ℕ) (l : Leaf) (r : Sort
 -- Its bytes, where it is a string.
 pub record SpellsLeaf (pool names nodes literals : List ℕ) (l : Leaf) (r : List ℕ) : Type 0 where
   pub spells : (refs types fields variables : List ℕ) (j : Json) (s : List ℕ) → Means pool names refs types fields nodes literals variables l j
-      → string_of j ≡ some s → s ≡ r
+      → string_of j ≡ Some s → s ≡ r

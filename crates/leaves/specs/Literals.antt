@@ -1,6 +1,6 @@
 -- What is asked of a literal or a node where it stands: its sort at a type, and the bytes of a string.
 use Rattle.std.specs.Prelude.{Bool, true, false, cond, List, [], ℕ}
-use Rattle.std.proofs.Math.Option.{Option, none, some}
+use Rattle.std.specs.Prelude.{Option, Some, None}
 use Rattle.rows.specs.Schema.{type_ref_at, type_at}
 use Rattle.rows.specs.Json.{literal_at}
 use Rattle.rows.specs.declared.schema.TypeRef.{TypeRef}
@@ -15,8 +15,8 @@ use Rattle.values.specs.Literals.{literal_sort}
 
 -- whether a literal that is no null becomes a container there; of a type that is not defined it is not asked
 unfoldable pub named_container : (types : List ℕ) → Option ℕ → Bool
-named_container types none = false
-named_container types (some type) = is_input_object (type_at types type).kind
+named_container types None = false
+named_container types (Some type) = is_input_object (type_at types type).kind
 
 unfoldable pub is_container : (types : List ℕ) → TypeRef → Bool
 is_container types (ref.Named name nullable) = named_container types (type_named types name)
@@ -36,5 +36,5 @@ coerced_sort refs types literals ty row =
 -- ---- The bytes of a string, and none of what is no string
 
 unfoldable pub bytes_of : Option (List ℕ) → List ℕ
-bytes_of none = []
-bytes_of (some s) = s
+bytes_of None = []
+bytes_of (Some s) = s

@@ -15,7 +15,6 @@ use input_coercion::arguments::MOST_OPEN;
 use input_coercion::check::{Form, literal_form};
 use lookup::named::type_named;
 use rows::json::{Literal, Node, literal_at, node_at};
-use rows::layout::Optional;
 use rows::names::name_text;
 use rows::schema::{TypeKind, TypeRef, type_at, type_ref_at};
 use rows::strings::text_of;
@@ -39,7 +38,7 @@ fn is_container_type(type_refs: &[u32], types: &[u32], ty: u32) -> bool
     let TypeRef::Named { name, nullable: _ } = type_ref_at(type_refs, ty) else {
         return true;
     };
-    let Optional::Row(row) = type_named(types, name) else {
+    let Some(row) = type_named(types, name) else {
         return false;
     };
     let def = type_at(types, row);

@@ -2,7 +2,7 @@
 use mathlib.Core.Path.{◌≡◌, refl, sym, ◌∙◌}
 use mathlib.Core.Bool.{Bool}
 use mathlib.Core.List.{List}
-use mathlib.Core.Option.{Option, none, some}
+use Rattle.std.specs.Prelude.{Option, Some, None}
 use Prim.Native.Nat.{ℕ, ◌<◌}
 use native.Mathlib.Nat.{zero-add}
 use native.Mathlib.Omega.{arith}
@@ -11,26 +11,23 @@ use borrow.Author.Tests.{eqb-true}
 use Rattle.rows.specs.Layout.{fragment_width}
 use Rattle.rows.specs.Rows.{rows_of}
 use Rattle.rows.specs.Document.{fragment_at}
-use Rattle.rows.specs.declared.layout.Optional.{Optional}
-use Rattle.rows.specs.declared.layout.Optional.TheVariants.{Absent, Row}
 use Rattle.graphql.specs.Lookup.{rows_from, fragment_named}
-use Rattle.lookup.specs.Found.{row_of}
 use Rattle.lookup.proofs.Searching.{find_passes, find_below}
 
-module _ (o : Option ℕ) {found : Optional} (e : found ≡ row_of o) where
-  pub found_none : found ≡ Absent → o ≡ none
+module _ (o : Option ℕ) {found : Option ℕ} (e : found ≡ o) where
+  pub found_none : found ≡ None → o ≡ None
   found_none h = go o (sym h ∙ e)
     where
-      go : (o : Option ℕ) → Absent ≡ row_of o → o ≡ none
-      go none h = refl
-      go (some row) h = absurd (let z : ◌≡◌ {A = ℕ} 0 1 = cc in omega arith)
+      go : (o : Option ℕ) → None ≡ o → o ≡ None
+      go None h = refl
+      go (Some row) h = absurd (let z : ◌≡◌ {A = ℕ} 0 1 = cc in omega arith)
 
-  pub found_some : {row : ℕ} → found ≡ Row row → o ≡ some row
+  pub found_some : {row : ℕ} → found ≡ Some row → o ≡ Some row
   found_some {row} h = go o (sym h ∙ e)
     where
-      go : (o : Option ℕ) → Row row ≡ row_of o → o ≡ some row
-      go none h = absurd (let z : ◌≡◌ {A = ℕ} 0 1 = cc in omega arith)
-      go (some f) h = let s : f ≡ row = cc in rw s
+      go : (o : Option ℕ) → Some row ≡ o → o ≡ Some row
+      go None h = absurd (let z : ◌≡◌ {A = ℕ} 0 1 = cc in omega arith)
+      go (Some f) h = let s : f ≡ row = cc in rw s
 
 -- the fragment has this name
 abbrev named : List ℕ → ℕ → ℕ → Bool
@@ -38,11 +35,11 @@ named fragments name row = eqb (fragment_at fragments row).name name
 
 module _ (fragments : List ℕ) where
   -- the row of a name is one of the fragments', and has that name
-  pub row_below : (name row : ℕ) → fragment_named fragments name ≡ some row → row < rows_of fragments fragment_width
+  pub row_below : (name row : ℕ) → fragment_named fragments name ≡ Some row → row < rows_of fragments fragment_width
   unfolding fragment_named
   row_below name row e = rw zero-add at (find_below (named fragments name) 0 (rows_of fragments fragment_width) row e)
 
-  pub row_named : (name row : ℕ) → fragment_named fragments name ≡ some row → (fragment_at fragments row).name ≡ name
+  pub row_named : (name row : ℕ) → fragment_named fragments name ≡ Some row → (fragment_at fragments row).name ≡ name
   unfolding fragment_named
   row_named name row e =
       eqb-true (fragment_at fragments row).name name

@@ -2,7 +2,7 @@
 use mathlib.Core.Path.{◌≡◌, refl, sym, ◌∙◌}
 use mathlib.Core.Bool.{Bool, true, false, cond, ◌||◌}
 use mathlib.Core.List.{List, [], ◌∷◌}
-use mathlib.Core.Option.{Option, none, some}
+use Rattle.std.specs.Prelude.{Option, Some, None}
 use Prim.Native.Nat.{ℕ, zero, suc, ◌+◌, ◌-◌, ◌≤◌, ◌<◌}
 use native.Mathlib.Nat.{sub-zero, add-zero}
 use native.Mathlib.Omega.{arith}
@@ -12,9 +12,8 @@ use Rattle.rows.specs.Strings.{same}
 use Rattle.rows.specs.Names.{name_text}
 use Rattle.rows.specs.Schema.{member_at}
 use Rattle.rows.specs.declared.layout.Range.{Range}
-use Rattle.rows.specs.declared.layout.Optional.TheVariants.{Absent, Row}
 use Rattle.graphql.specs.Lookup.{rows_from, rows_in, find, any}
-use Rattle.lookup.specs.Found.{has_word, is_named, row_of, is_found}
+use Rattle.lookup.specs.Found.{has_word, is_named, is_found}
 
 module _ (test : ℕ → Bool) where
   -- the row that comes next does not pass
@@ -23,28 +22,28 @@ module _ (test : ℕ → Bool) where
   find_next row n e = rw e
 
   -- or it does
-  find_here : (row n : ℕ) → test row ≡ true → find test (rows_from row (suc n)) ≡ some row
+  find_here : (row n : ℕ) → test row ≡ true → find test (rows_from row (suc n)) ≡ Some row
   unfolding find rows_from
   find_here row n e = rw e
 
   -- what was found passes
-  pub find_passes : (rows : List ℕ) (f : ℕ) → find test rows ≡ some f → test f ≡ true
+  pub find_passes : (rows : List ℕ) (f : ℕ) → find test rows ≡ Some f → test f ≡ true
   unfolding find
   find_passes [] f e = absurd (let z : ◌≡◌ {A = ℕ} 0 1 = cc in omega arith)
   find_passes (row ∷ rest) f e = go (test row) refl e (find_passes rest f)
     where
-      go : (b : Bool) → test row ≡ b → cond b (some row) (find test rest) ≡ some f → (find test rest ≡ some f → test f ≡ true) → test f ≡ true
+      go : (b : Bool) → test row ≡ b → cond b (Some row) (find test rest) ≡ Some f → (find test rest ≡ Some f → test f ≡ true) → test f ≡ true
       go true t e later = let s : row ≡ f = cc in rw (← s) t
       go false t e later = later e
 
   -- and is one of the rows
-  pub find_below : (first n f : ℕ) → find test (rows_from first n) ≡ some f → f < first + n
+  pub find_below : (first n f : ℕ) → find test (rows_from first n) ≡ Some f → f < first + n
   unfolding find rows_from
   find_below first zero f e = absurd (let z : ◌≡◌ {A = ℕ} 0 1 = cc in omega arith)
   find_below first (suc n) f e = go (test first) e (find_below (suc first) n f)
     where
-      go : (b : Bool) → cond b (some first) (find test (rows_from (suc first) n)) ≡ some f
-          → (find test (rows_from (suc first) n) ≡ some f → f < suc first + n) → f < first + suc n
+      go : (b : Bool) → cond b (Some first) (find test (rows_from (suc first) n)) ≡ Some f
+          → (find test (rows_from (suc first) n) ≡ Some f → f < suc first + n) → f < first + suc n
       go true e later = let s : first ≡ f = cc in omega arith
       go false e later = let l : f < suc first + n = later e in omega arith
 
@@ -54,7 +53,7 @@ module _ (test : ℕ → Bool) where
   any_found [] = refl
   any_found (row ∷ rest) = go (test row) (any_found rest)
     where
-      go : (b : Bool) → any test rest ≡ is_found (find test rest) → (b || any test rest) ≡ is_found (cond b (some row) (find test rest))
+      go : (b : Bool) → any test rest ≡ is_found (find test rest) → (b || any test rest) ≡ is_found (cond b (Some row) (find test rest))
       go true h = refl
       go false h = h
 
@@ -77,10 +76,10 @@ module _ (test : ℕ → Bool) (rows : Range) where
         let on : rows.first + (i + 1) ≡ suc (rows.first + i) = omega arith in
         record { below = omega arith; sought = s.sought ∙ rw (left, on, find_next test (rows.first + i) (rows.count - (i + 1)) e) }
 
-    pub seek_found : test (rows.first + i) ≡ true → find test (rows_in rows) ≡ some (rows.first + i)
+    pub seek_found : test (rows.first + i) ≡ true → find test (rows_in rows) ≡ Some (rows.first + i)
     seek_found e = rw (s.sought, left, find_here test (rows.first + i) (rows.count - (i + 1)) e)
 
-  pub seek_none : {i : ℕ} → Seeking i → rows.count ≤ i → find test (rows_in rows) ≡ none
+  pub seek_none : {i : ℕ} → Seeking i → rows.count ≤ i → find test (rows_in rows) ≡ None
   unfolding find rows_from
   seek_none {i} s l = let z : rows.count - i ≡ 0 = omega arith in rw (s.sought, z)
 
@@ -90,29 +89,29 @@ module _ (t : List ℕ) (width column word : ℕ) (rows : Range) where
     pub word_next : (got ≡ word → ⊥) → Seeking (has_word t width column word) rows (i + 1)
     word_next d = seek_next (has_word t width column word) rows s l (ne_eqb _ _ (rw e at d))
 
-    pub word_found : got ≡ word → Row (rows.first + i) ≡ row_of (find (has_word t width column word) (rows_in rows))
+    pub word_found : got ≡ word → Some (rows.first + i) ≡ (find (has_word t width column word) (rows_in rows))
     word_found d = rw (seek_found (has_word t width column word) rows s l (eq-eqb _ _ (rw e at d)))
 
-  pub word_none : {i : ℕ} → Seeking (has_word t width column word) rows i → rows.count ≤ i → Absent ≡ row_of (find (has_word t width column word) (rows_in rows))
+  pub word_none : {i : ℕ} → Seeking (has_word t width column word) rows i → rows.count ≤ i → None ≡ (find (has_word t width column word) (rows_in rows))
   word_none s l = rw (seek_none (has_word t width column word) rows s l)
 
 pub ruleset seeking = (seek_begin, word_next, word_found, word_none)
 
 -- what a search that found nothing, and one that found a row, say of whether there is one
 module _ (test : ℕ → Bool) (rows : List ℕ) where
-  pub none_passes : Absent ≡ row_of (find test rows) → false ≡ any test rows
+  pub none_passes : None ≡ (find test rows) → false ≡ any test rows
   none_passes e = rw any_found (go (find test rows) e)
     where
-      go : (o : Option ℕ) → Absent ≡ row_of o → false ≡ is_found o
-      go none e = refl
-      go (some row) e = absurd (let z : ◌≡◌ {A = ℕ} 0 1 = cc in omega arith)
+      go : (o : Option ℕ) → None ≡ o → false ≡ is_found o
+      go None e = refl
+      go (Some row) e = absurd (let z : ◌≡◌ {A = ℕ} 0 1 = cc in omega arith)
 
-  pub one_passes : {row : ℕ} → Row row ≡ row_of (find test rows) → true ≡ any test rows
+  pub one_passes : {row : ℕ} → Some row ≡ (find test rows) → true ≡ any test rows
   one_passes e = rw any_found (go (find test rows) e)
     where
-      go : (o : Option ℕ) {row : ℕ} → Row row ≡ row_of o → true ≡ is_found o
-      go none e = absurd (let z : ◌≡◌ {A = ℕ} 0 1 = cc in omega arith)
-      go (some row) e = refl
+      go : (o : Option ℕ) {row : ℕ} → Some row ≡ o → true ≡ is_found o
+      go None e = absurd (let z : ◌≡◌ {A = ℕ} 0 1 = cc in omega arith)
+      go (Some row) e = refl
 
 -- a search for a name among members
 module _ (pool names members string : List ℕ) (rows : Range) where

@@ -1,13 +1,11 @@
 -- A search through rows for a word in a column, and how the code says what was found.
 use Rattle.std.specs.Prelude.{Bool, true, false, List, ℕ, ◌+◌, ◌≤◌, eqb}
-use Rattle.std.proofs.Math.Option.{Option, none, some}
+use Rattle.std.specs.Prelude.{Option, Some, None}
 use Rattle.rows.specs.Limits.{most_rows}
 use Rattle.rows.specs.Rows.{cell}
 use Rattle.rows.specs.Strings.{same}
 use Rattle.rows.specs.Names.{name_text}
 use Rattle.rows.specs.Schema.{type_at, member_at}
-use Rattle.rows.specs.declared.layout.Optional.{Optional}
-use Rattle.rows.specs.declared.layout.Optional.TheVariants.{Absent, Row}
 
 -- the row has this word in the column
 abbrev pub has_word : List ℕ → (width column word : ℕ) → ℕ → Bool
@@ -17,13 +15,9 @@ has_word t width column word row = eqb (cell t width row column) word
 abbrev pub is_named : (pool names members string : List ℕ) → ℕ → Bool
 is_named pool names members string row = same (name_text pool names (member_at members row)) string
 
-abbrev pub row_of : Option ℕ → Optional
-row_of none = Absent
-row_of (some row) = Row row
-
 abbrev pub is_found : Option ℕ → Bool
-is_found none = false
-is_found (some row) = true
+is_found None = false
+is_found (Some row) = true
 
 -- the members that each type lists have numbers that are words; lawful tables give it
 pub record Listed (types : List ℕ) : Type 0 where

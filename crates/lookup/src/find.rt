@@ -3,14 +3,14 @@ ghost use Rattle.std.specs.Prelude.{◌≡◌, ◌+◌, ◌≤◌, ◌<◌};
 ghost use Rattle.rows.specs.Limits.{most_rows};
 ghost use Rattle.rows.specs.Rows.{rows_of};
 ghost use Rattle.graphql.specs.Lookup.{rows_from, rows_in, find, any};
-ghost use Rattle.lookup.specs.Found.{has_word, row_of, is_found};
+ghost use Rattle.lookup.specs.Found.{has_word, is_found};
 
-use rows::layout::{Optional, Range, cell, row_count};
+use rows::layout::{Range, cell, row_count};
 
 // Rows of a lawful table have numbers that are words.
-pub fn find_word(t: &[u32], width: usize, column: usize, rows: Range, word: u32) -> Optional
+pub fn find_word(t: &[u32], width: usize, column: usize, rows: Range, word: u32) -> Option<u32>
     requires { (width ≤ 16) × (column < 16) × (rows.first + rows.count ≤ most_rows) }
-    ensures { result ≡ row_of (find (has_word t.now width column word) (rows_in rows)) }
+    ensures { result ≡ find (has_word t.now width column word) (rows_in rows) }
 {
     let first = rows.first;
     let count = rows.count;
@@ -18,17 +18,17 @@ pub fn find_word(t: &[u32], width: usize, column: usize, rows: Range, word: u32)
     while i < count {
         let row = first + i;
         if cell(t, width, row as usize, column) == word {
-            return Optional::Row(row);
+            return Some(row);
         }
         i += 1;
     }
-    Optional::Absent
+    None
 }
 
 // The same among all rows of a table.
-pub fn find_in_table(t: &[u32], width: usize, column: usize, word: u32) -> Optional
+pub fn find_in_table(t: &[u32], width: usize, column: usize, word: u32) -> Option<u32>
     requires { (0 < width) × (width ≤ 16) × (column < 16) }
-    ensures { result ≡ row_of (find (has_word t.now width column word) (rows_from 0 (rows_of t.now width))) }
+    ensures { result ≡ find (has_word t.now width column word) (rows_from 0 (rows_of t.now width)) }
 {
     let rows = Range {
         first: 0,
@@ -43,7 +43,7 @@ pub fn has_word(t: &[u32], width: usize, column: usize, rows: Range, word: u32) 
     ensures { result ≡ any (has_word t.now width column word) (rows_in rows) }
 {
     match find_word(t, width, column, rows, word) {
-        Optional::Absent => false,
-        Optional::Row(_) => true,
+        None => false,
+        Some(_) => true,
     }
 }

@@ -3,7 +3,7 @@ ghost use Rattle.std.specs.Prelude.{◌≡◌, List, ◌+◌, ◌≤◌};
 ghost use Rattle.rows.specs.Limits.{most_rows};
 ghost use Rattle.rows.specs.Schema.{type_at};
 ghost use Rattle.graphql.specs.Lookup.{rows_in, any, non_null, type_named, lists, has_value, field_named, fragment_named, variable_named, field_answer};
-ghost use Rattle.lookup.specs.Found.{row_of, is_named};
+ghost use Rattle.lookup.specs.Found.{is_named};
 
 use crate::find::{find_in_table, find_word, has_word};
 use rows::answers::ANSWER_WIDTH;
@@ -12,7 +12,7 @@ use rows::columns::{
 };
 use rows::document::FRAGMENT_WIDTH;
 use rows::json::VARIABLE_WIDTH;
-use rows::layout::{Optional, Range};
+use rows::layout::Range;
 use rows::names::name_text;
 use rows::schema::{
     FIELD_WIDTH, MEMBER_WIDTH, TYPE_WIDTH, TypeRef, member_at, type_at, type_ref_at,
@@ -20,30 +20,30 @@ use rows::schema::{
 use rows::strings::is_same;
 
 // The type of this name.
-pub fn type_named(types: &[u32], name: u32) -> Optional
-    ensures { result ≡ row_of (type_named types.now name) }
+pub fn type_named(types: &[u32], name: u32) -> Option<u32>
+    ensures { result ≡ type_named types.now name }
 {
     find_in_table(types, TYPE_WIDTH, TYPE_NAME, name)
 }
 
 // The fragment of this name.
-pub fn fragment_named(fragments: &[u32], name: u32) -> Optional
-    ensures { result ≡ row_of (fragment_named fragments.now name) }
+pub fn fragment_named(fragments: &[u32], name: u32) -> Option<u32>
+    ensures { result ≡ fragment_named fragments.now name }
 {
     find_in_table(fragments, FRAGMENT_WIDTH, FRAGMENT_NAME, name)
 }
 
 // The row of the value of the variable of this name.
-pub fn variable_named(variables: &[u32], name: u32) -> Optional
-    ensures { result ≡ row_of (variable_named variables.now name) }
+pub fn variable_named(variables: &[u32], name: u32) -> Option<u32>
+    ensures { result ≡ variable_named variables.now name }
 {
     find_in_table(variables, VARIABLE_WIDTH, VARIABLE_NAME, name)
 }
 
 // The field of this name in a type.
-pub fn field_named(types: &[u32], fields: &[u32], ty: u32, name: u32) -> Optional
+pub fn field_named(types: &[u32], fields: &[u32], ty: u32, name: u32) -> Option<u32>
     requires { (type_at types.now ty).fields.first + (type_at types.now ty).fields.count ≤ most_rows }
-    ensures { result ≡ row_of (field_named types.now fields.now ty name) }
+    ensures { result ≡ field_named types.now fields.now ty name }
 {
     let def = type_at(types, ty);
     let rows = def.fields;
@@ -107,9 +107,9 @@ pub fn has_value(
 }
 
 // The answer to a field of an object whose rows these are.
-pub fn field_answer(answers: &[u32], rows: Range, name: u32) -> Optional
+pub fn field_answer(answers: &[u32], rows: Range, name: u32) -> Option<u32>
     requires { rows.first + rows.count ≤ most_rows }
-    ensures { result ≡ row_of (field_answer answers.now rows name) }
+    ensures { result ≡ field_answer answers.now rows name }
 {
     find_word(answers, ANSWER_WIDTH, ANSWER_NAME, rows, name)
 }

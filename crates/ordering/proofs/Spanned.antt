@@ -1,7 +1,7 @@
 -- The words of a set's spans beside its slots: one is 0 where the slot is empty, and else, where that is sure, one more than the length of the slot's
 -- entry. So the code finds the definition's slot and the definition's place. Assumes nothing.
 use mathlib.Core.Path.{◌≡◌, refl, ap, ◌∙◌}
-use mathlib.Core.Option.{Option, none, some}
+use Rattle.std.specs.Prelude.{Option, Some, None}
 use mathlib.Core.List.{List, [], ◌∷◌}
 use Prim.Native.Nat.{ℕ, zero, suc}
 use native.Mathlib.Omega.{arith}
@@ -14,12 +14,12 @@ use Rattle.ordering.specs.Spans.{open_at, opens, together}
 module _ {G : Type 0} (key : G → List ℕ) where
   pub data Spanned (sure : Type 0) : List G → List (Option Val) → List ℕ → Type 0 where
     ends : Spanned sure [] [] []
-    opened : {g : G} {gs : List G} {os : List (Option Val)} {ws : List ℕ} → Spanned sure gs os ws → Spanned sure (g ∷ gs) (none ∷ os) (0 ∷ ws)
-    filled : {g : G} {v : Val} {w : ℕ} {gs : List G} {os : List (Option Val)} {ws : List ℕ} → (sure → w ≡ length (slot_entry key g (some v)))
-        → Spanned sure gs os ws → Spanned sure (g ∷ gs) (some v ∷ os) (suc w ∷ ws)
+    opened : {g : G} {gs : List G} {os : List (Option Val)} {ws : List ℕ} → Spanned sure gs os ws → Spanned sure (g ∷ gs) (None ∷ os) (0 ∷ ws)
+    filled : {g : G} {v : Val} {w : ℕ} {gs : List G} {os : List (Option Val)} {ws : List ℕ} → (sure → w ≡ length (slot_entry key g (Some v)))
+        → Spanned sure gs os ws → Spanned sure (g ∷ gs) (Some v ∷ os) (suc w ∷ ws)
 
   -- Before the first turn.
-  pub spanned_none : (sure : Type 0) (gs : List G) → Spanned sure gs (replicate (length gs) none) (replicate (length gs) 0)
+  pub spanned_none : (sure : Type 0) (gs : List G) → Spanned sure gs (replicate (length gs) None) (replicate (length gs) 0)
   spanned_none sure [] = ends
   spanned_none sure (g ∷ gs) = opened (spanned_none sure gs)
 
@@ -48,7 +48,7 @@ module _ {G : Type 0} (key : G → List ℕ) where
     spanned_first s (filled e h) zero = refl
     spanned_first s (filled {g} {v} {w} {gs} {os} e h) (suc i) =
         let r = spanned_first s h i in
-        length-append (slot_entry key g (some v)) (slotted key gs (take i os)) ∙ omega (arith, e s)
+        length-append (slot_entry key g (Some v)) (slotted key gs (take i os)) ∙ omega (arith, e s)
 
     pub spanned_all : {gs : List G} {os : List (Option Val)} {ws : List ℕ} → sure → Spanned sure gs os ws
         → length (slotted key gs os) ≡ together ws
@@ -56,11 +56,11 @@ module _ {G : Type 0} (key : G → List ℕ) where
     spanned_all s ends = refl
     spanned_all s (opened h) = let r = spanned_all s h in omega arith
     spanned_all s (filled {g} {v} {w} {gs} {os} e h) =
-        let r = spanned_all s h in length-append (slot_entry key g (some v)) (slotted key gs os) ∙ omega (arith, e s)
+        let r = spanned_all s h in length-append (slot_entry key g (Some v)) (slotted key gs os) ∙ omega (arith, e s)
 
     -- One is filled.
     pub spanned_set : (z : G) {gs : List G} {os : List (Option Val)} {ws : List ℕ} (i : ℕ) (v : Val) (w : ℕ) → Spanned sure gs os ws
-        → (sure → w ≡ length (slot_entry key (get_or gs i z) (some v))) → Spanned sure gs (set os i (some v)) (set ws i (suc w))
+        → (sure → w ≡ length (slot_entry key (get_or gs i z) (Some v))) → Spanned sure gs (set os i (Some v)) (set ws i (suc w))
     spanned_set z i v w ends e = ends
     spanned_set z zero v w (opened h) e = filled e h
     spanned_set z (suc i) v w (opened h) e = opened (spanned_set z i v w h e)

@@ -2,7 +2,7 @@
 -- say which slots are empty, and where the entry of one begins. Assumes nothing.
 use mathlib.Core.Path.{◌≡◌, refl, sym, ap, ◌∙◌}
 use mathlib.Core.Bool.{cond}
-use mathlib.Core.Option.{Option, none, some}
+use Rattle.std.specs.Prelude.{Option, Some, None}
 use mathlib.Core.List.{List, []}
 use Prim.Native.Nat.{ℕ, suc, ◌+◌, ◌-◌, ◌≤◌, ◌<◌}
 use native.Mathlib.Omega.{arith}
@@ -82,7 +82,7 @@ module _ {G : Type 0} (run : G → M Val) (key : G → List ℕ) (z : G) (cs : C
   turning_begin {spans} {spans'} {base} {groups} e few room c =
       let n : groups - 0 ≡ length gs = omega arith in
       record {
-        slots = replicate (length gs) none;
+        slots = replicate (length gs) None;
         setting = rw n (setting_begin run key z cs gs p text₀ errors₀ s);
         spanned = rw (clears_words (omega arith) c, e) (spanned_none key (s.at ≤ length text₀) gs);
         counted = e;
@@ -229,7 +229,7 @@ module _ {G : Type 0} (run : G → M Val) (key : G → List ℕ) (z : G) (cs : C
                   let fits : d.state.at ≤ length text₀ → d.state.at ≤ length text2 =
                   λ u. omega (arith, t.entered.long, h.setting.wrote.long) in
                   record {
-                    slots = set h.slots (slot h.slots nth) (some t.value);
+                    slots = set h.slots (slot h.slots nth) (Some t.value);
                     setting = t.setting;
                     spanned =
                         rw (words_new, is_slot)

@@ -2,7 +2,7 @@
 use mathlib.Core.Path.{◌≡◌, refl}
 use mathlib.Core.Bool.{Bool, true, false, cond}
 use mathlib.Core.List.{List, [], ◌∷◌, ◌++◌}
-use mathlib.Core.Option.{Option, none, some}
+use Rattle.std.specs.Prelude.{Option, Some, None}
 use Prim.Native.Nat.{ℕ, zero, suc, ◌+◌, ◌-◌, ◌≤◌, ◌<◌}
 use native.Mathlib.Omega.{arith}
 use lib.Dec.{eqb}
@@ -22,23 +22,23 @@ definition_of_lem Q type n = refl
 -- ---- the word of a definition, read
 
 module _ {own : ℕ} where
-  pub undefined_is : (definition : Option Definition) → own ≡ definition_code definition → own ≡ 0 → definition ≡ none
+  pub undefined_is : (definition : Option Definition) → own ≡ definition_code definition → own ≡ 0 → definition ≡ None
   unfolding definition_code
-  undefined_is none e z = refl
-  undefined_is (some typename) e z = absurd (omega arith)
-  undefined_is (some (defined f)) e z = absurd (omega arith)
+  undefined_is None e z = refl
+  undefined_is (Some typename) e z = absurd (omega arith)
+  undefined_is (Some (defined f)) e z = absurd (omega arith)
 
-  pub typename_is : (definition : Option Definition) → own ≡ definition_code definition → own ≡ 1 → definition ≡ some typename
+  pub typename_is : (definition : Option Definition) → own ≡ definition_code definition → own ≡ 1 → definition ≡ Some typename
   unfolding definition_code
-  typename_is none e z = absurd (omega arith)
-  typename_is (some typename) e z = refl
-  typename_is (some (defined f)) e z = absurd (omega arith)
+  typename_is None e z = absurd (omega arith)
+  typename_is (Some typename) e z = refl
+  typename_is (Some (defined f)) e z = absurd (omega arith)
 
-  pub defined_is : (definition : Option Definition) → own ≡ definition_code definition → 2 ≤ own → definition ≡ some (defined (own - 2))
+  pub defined_is : (definition : Option Definition) → own ≡ definition_code definition → 2 ≤ own → definition ≡ Some (defined (own - 2))
   unfolding definition_code
-  defined_is none e l = absurd (omega arith)
-  defined_is (some typename) e l = absurd (omega arith)
-  defined_is (some (defined f)) e l = let s : own - 2 ≡ f = omega arith in rw s
+  defined_is None e l = absurd (omega arith)
+  defined_is (Some typename) e l = absurd (omega arith)
+  defined_is (Some (defined f)) e l = let s : own - 2 ≡ f = omega arith in rw s
 
 -- ---- the groups by number
 

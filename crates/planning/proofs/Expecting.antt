@@ -2,7 +2,7 @@
 use mathlib.Core.Path.{◌≡◌, refl, ◌∙◌}
 use mathlib.Core.Bool.{Bool, false}
 use mathlib.Core.List.{List, [], ◌∷◌}
-use mathlib.Core.Option.{Option, none, some}
+use Rattle.std.specs.Prelude.{Option, Some, None}
 use Prim.Native.Nat.{ℕ, ◌+◌, ◌-◌, ◌≤◌, ◌<◌}
 use native.Mathlib.Omega.{arith}
 use lib.Dec.{eqb}
@@ -14,8 +14,6 @@ use Rattle.rows.specs.Layout.{type_width}
 use Rattle.rows.specs.Limits.{most_types, most_fields}
 use Rattle.rows.specs.Rows.{rows_of}
 use Rattle.rows.specs.Schema.{type_ref_at, type_at, field_at}
-use Rattle.rows.specs.declared.layout.Optional.{Optional}
-use Rattle.rows.specs.declared.layout.Optional.TheVariants.{Absent, Row}
 use Rattle.rows.specs.declared.schema.TypeDef.{TypeDef}
 use Rattle.rows.specs.declared.schema.Field.{Field}
 use Rattle.rows.specs.declared.schema.TypeRef.{TypeRef}
@@ -25,7 +23,6 @@ use Rattle.rows.specs.declared.schema.TypeKind.TheVariants as kind
 use Rattle.rows.specs.contracts.schema.TypeKind as kinds
 use Rattle.graphql.specs.Lookup.{rows_in, type_named, field_named}
 use Rattle.graphql.specs.Complete.{Definition, typename, defined, definition_of}
-use Rattle.lookup.specs.Found.{row_of}
 use Rattle.lookup.proofs.Searching.{find_below}
 use Rattle.lookup.proofs.Fragments.{found_none, found_some}
 use Rattle.planning.specs.Expected.{with', care, of_kind, expected_named, expected_at, expected_of, ref_of, Referred}
@@ -36,24 +33,24 @@ use Rattle.planning.specs.declared.expected.Expected.{Expected}
 abbrev others : List ℕ
 others = 3 ∷ 4 ∷ 5 ∷ 6 ∷ []
 
-module _ (types : List ℕ) (name : ℕ) {found : Optional} (e : found ≡ row_of (type_named types name)) where
-  pub type_small : {row : ℕ} → found ≡ Row row → rows_of types type_width ≤ most_types → row < 65536
+module _ (types : List ℕ) (name : ℕ) {found : Option ℕ} (e : found ≡ (type_named types name)) where
+  pub type_small : {row : ℕ} → found ≡ Some row → rows_of types type_width ≤ most_types → row < 65536
   unfolding type_named
   type_small {row = row'} h l =
       let b = find_below (λ row. eqb (type_at types row).name name) 0 (rows_of types type_width) row' (found_some (type_named types name) e h) in
       omega arith
 
-  by_kind : (nullable : Bool) {row : ℕ} → found ≡ Row row → {def : TypeDef} → def ≡ type_at types row
+  by_kind : (nullable : Bool) {row : ℕ} → found ≡ Some row → {def : TypeDef} → def ≡ type_at types row
       → expected_named types name nullable (type_named types name) ≡ of_kind nullable name row def.kind
   unfolding expected_named
   by_kind nullable h read = rw (found_some (type_named types name) e h, ← read)
 
   module _ (nullable : Bool) {r : Expected} where
-    pub named_none : found ≡ Absent → r ≡ with' false 0 0 → r ≡ expected_named types name nullable (type_named types name)
+    pub named_none : found ≡ None → r ≡ with' false 0 0 → r ≡ expected_named types name nullable (type_named types name)
     unfolding expected_named
     named_none h q = rw (found_none (type_named types name) e h) q
 
-    module _ {row : ℕ} (h : found ≡ Row row) {def : TypeDef} (read : def ≡ type_at types row) where
+    module _ {row : ℕ} (h : found ≡ Some row) {def : TypeDef} (read : def ≡ type_at types row) where
       pub named_scalar : def.kind ≡ kind.Scalar → r ≡ with' nullable 1 name → r ≡ expected_named types name nullable (type_named types name)
       unfolding of_kind
       named_scalar k q = rw (by_kind nullable h read, k) q
@@ -117,21 +114,21 @@ module _ (types fields : List ℕ) (object name : ℕ) where
   unfolding definition_of definition_code
   def_typename z = rw z
 
-  module _ (n : name ≡ 0 → ⊥) {found : Optional} (e : found ≡ row_of (field_named types fields object name)) where
+  module _ (n : name ≡ 0 → ⊥) {found : Option ℕ} (e : found ≡ (field_named types fields object name)) where
     by_field : (o : Option ℕ) → field_named types fields object name ≡ o
-        → definition_of (schema types fields) object name ≡ (elim o as (λ o. Option Definition) [ none ↦ none | some f ↦ some (defined f) ])
+        → definition_of (schema types fields) object name ≡ (elim o as (λ o. Option Definition) [ None ↦ None | Some f ↦ Some (defined f) ])
     unfolding definition_of
     by_field o q = rw (ne_eqb name 0 n, q, definition_of)
 
-    pub def_none : found ≡ Absent → 0 ≡ definition_code (definition_of (schema types fields) object name)
+    pub def_none : found ≡ None → 0 ≡ definition_code (definition_of (schema types fields) object name)
     unfolding definition_code
-    def_none h = rw (by_field none (found_none (field_named types fields object name) e h))
+    def_none h = rw (by_field None (found_none (field_named types fields object name) e h))
 
-    pub def_some : {row : ℕ} → found ≡ Row row → 2 + row ≡ definition_code (definition_of (schema types fields) object name)
+    pub def_some : {row : ℕ} → found ≡ Some row → 2 + row ≡ definition_code (definition_of (schema types fields) object name)
     unfolding definition_code
-    def_some {row = row'} h = rw (by_field (some row') (found_some (field_named types fields object name) e h))
+    def_some {row = row'} h = rw (by_field (Some row') (found_some (field_named types fields object name) e h))
 
-  module _ {found : Optional} (e : found ≡ row_of (field_named types fields object name)) {row : ℕ} (h : found ≡ Row row)
+  module _ {found : Option ℕ} (e : found ≡ (field_named types fields object name)) {row : ℕ} (h : found ≡ Some row)
       (l : (type_at types object).fields.first + (type_at types object).fields.count ≤ most_fields) where
     field_below : row < 1024
     unfolding field_named rows_in
@@ -154,17 +151,17 @@ module _ (refs types fields : List ℕ) (own ty : ℕ) where
   pub low_expected : own < 2 → (d : Option Definition) → own ≡ definition_code d
       → ◌≡◌ {A = Expected} (record { what = 0; of = 0 }) (expected_of refs types fields d ty)
   unfolding expected_of definition_code
-  low_expected l none e = refl
-  low_expected l (some typename) e = refl
-  low_expected l (some (defined f)) e = absurd (omega arith)
+  low_expected l None e = refl
+  low_expected l (Some typename) e = refl
+  low_expected l (Some (defined f)) e = absurd (omega arith)
 
   module _ (h : 2 ≤ own) {def : Field} (read : def ≡ field_at fields (own - 2)) where
     pub args_expected : 0 < def.arguments.count → (d : Option Definition) → own ≡ definition_code d
         → ◌≡◌ {A = Expected} (record { what = 0; of = 0 }) (expected_of refs types fields d ty)
     unfolding expected_of definition_code
-    args_expected l none e = absurd (omega arith)
-    args_expected l (some typename) e = absurd (omega arith)
-    args_expected l (some (defined f)) e =
+    args_expected l None e = absurd (omega arith)
+    args_expected l (Some typename) e = absurd (omega arith)
+    args_expected l (Some (defined f)) e =
         let s : own - 2 ≡ f = omega arith in
         let t : def ≡ field_at fields f = rw (← s) read in
         let m : 0 < (field_at fields f).arguments.count = rw (← t) l in
@@ -174,9 +171,9 @@ module _ (refs types fields : List ℕ) (own ty : ℕ) where
         ≡ definition_code d
         → r ≡ expected_of refs types fields d ty
     unfolding expected_of definition_code
-    plain_expected l q none e = absurd (omega arith)
-    plain_expected l q (some typename) e = absurd (omega arith)
-    plain_expected l q (some (defined f)) e =
+    plain_expected l q None e = absurd (omega arith)
+    plain_expected l q (Some typename) e = absurd (omega arith)
+    plain_expected l q (Some (defined f)) e =
         let s : own - 2 ≡ f = omega arith in
         let t : def ≡ field_at fields f = rw (← s) read in
         let m : (field_at fields f).arguments.count ≤ 0 = rw (← t) l in

@@ -1,6 +1,6 @@
 -- What is expected at a type, where a value of that type needs no care: a scalar, an enum, an object, or a list.
 use Rattle.std.specs.Prelude.{List, Bool, cond, ℕ, ◌+◌, ◌≤◌, ◌<◌, ltb}
-use Rattle.std.proofs.Math.Option.{Option, none, some}
+use Rattle.std.specs.Prelude.{Option, Some, None}
 use Rattle.rows.specs.Layout.{type_width}
 use Rattle.rows.specs.Limits.{most_types}
 use Rattle.rows.specs.Rows.{rows_of}
@@ -31,8 +31,8 @@ of_kind nullable name row kind.Unknown = care
 
 -- at a type of this name
 unfoldable pub expected_named : (types : List ℕ) (name : ℕ) (nullable : Bool) → Option ℕ → Expected
-expected_named types name nullable none = care
-expected_named types name nullable (some row) = of_kind nullable name row (type_at types row).kind
+expected_named types name nullable None = care
+expected_named types name nullable (Some row) = of_kind nullable name row (type_at types row).kind
 
 unfoldable pub expected_at : (types : List ℕ) → TypeRef → Expected
 expected_at types (ref.Named name nullable) = expected_named types name nullable (type_named types name)
@@ -41,9 +41,9 @@ expected_at types ref.Unknown = care
 
 -- of a field that is defined and has no arguments
 unfoldable pub expected_of : (refs types fields : List ℕ) → Option Definition → (ty : ℕ) → Expected
-expected_of refs types fields none ty = care
-expected_of refs types fields (some typename) ty = care
-expected_of refs types fields (some (defined f)) ty =
+expected_of refs types fields None ty = care
+expected_of refs types fields (Some typename) ty = care
+expected_of refs types fields (Some (defined f)) ty =
     cond (ltb 0 (field_at fields f).arguments.count) care (expected_at types (type_ref_at refs ty))
 
 -- ---- What the tables give

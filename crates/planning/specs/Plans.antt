@@ -1,7 +1,7 @@
 -- Plans: what the rows of eight words of a lent array stand for. A plan's head says how many groups and fields it has; a row for each group
 -- follows and, where some group has more than one field, a row for each field. What stands is never changed.
 use Rattle.std.specs.Prelude.{◌≡◌, List, [], ◌∷◌, ◌++◌, cond, ℕ, zero, suc, ◌+◌, ◌*◌, ◌-◌, ◌≤◌, ◌<◌, eqb, length, get_or, take}
-use Rattle.std.proofs.Math.Option.{Option, none, some}
+use Rattle.std.specs.Prelude.{Option, Some, None}
 use Rattle.rows.specs.Limits.{most_names, most_fields, most_types}
 use Rattle.rows.specs.Schema.{type_at}
 use Rattle.rows.specs.Document.{field_selection}
@@ -91,9 +91,9 @@ groups_at selections plans plan = tabled (group_at selections plans plan) 0 (gro
 -- ---- The row of a group
 
 unfoldable pub definition_code : Option Definition → ℕ
-definition_code none = 0
-definition_code (some typename) = 1
-definition_code (some (defined f)) = 2 + f
+definition_code None = 0
+definition_code (Some typename) = 1
+definition_code (Some (defined f)) = 2 + f
 
 -- requests of which only these tables matter: the definition of a field, and the sets beneath a group
 abbrev pub schema : (types fields : List ℕ) → Request

@@ -8,7 +8,6 @@ ghost use Rattle.graphql.specs.Lookup.{type_named};
 ghost use Rattle.planning.specs.Expected.{with', expected_named, expected_at, Referred};
 
 use lookup::named::type_named;
-use rows::layout::Optional;
 use rows::schema::{TypeKind, TypeRef, type_at, type_ref_at};
 
 // Something that needs care; a leaf of a scalar (its name) or of an enum (its row); an object (its type); a list (the type of its items).
@@ -51,7 +50,7 @@ fn expected_of(types: &[u32], name: u32, nullable: bool) -> Expected
     requires { (name < 65536) × (rows_of types.now type_width ≤ most_types) }
     ensures { result ≡ expected_named types.now name nullable (type_named types.now name) }
 {
-    let Optional::Row(row) = type_named(types, name) else {
+    let Some(row) = type_named(types, name) else {
         return with(false, CARE, 0);
     };
     let def = type_at(types, row);

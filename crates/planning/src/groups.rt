@@ -1,6 +1,6 @@
 // The groups of fields, put into rows.
 ghost use Rattle.std.specs.Prelude.{◌≡◌, List, ℕ, ◌+◌, ◌*◌, ◌≤◌, ◌<◌, length};
-ghost use Rattle.std.proofs.Math.Option.{Option};
+ghost use Rattle.std.specs.Prelude.{Option};
 ghost use Rattle.rows.specs.Limits.{most_fields};
 ghost use Rattle.rows.specs.Schema.{type_at};
 ghost use Rattle.graphql.specs.Complete.{Definition, definition_of};
@@ -14,7 +14,6 @@ use crate::layout::{
 };
 use lookup::named::field_named;
 use rows::document::{FieldSelection, field_selection};
-use rows::layout::Optional;
 use rows::schema::field_at;
 
 // `__typename`
@@ -28,8 +27,8 @@ fn definition_of(types: &[u32], fields: &[u32], object: u32, name: u32) -> u16
         return TYPENAME;
     }
     match field_named(types, fields, object, name) {
-        Optional::Absent => UNDEFINED,
-        Optional::Row(row) => DEFINED + (row as u16),
+        None => UNDEFINED,
+        Some(row) => DEFINED + (row as u16),
     }
 }
 

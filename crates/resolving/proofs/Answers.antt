@@ -2,13 +2,11 @@
 use mathlib.Core.Path.{◌≡◌, refl, sym, ap, ◌∙◌}
 use mathlib.Core.Bool.{Bool, true, false}
 use mathlib.Core.List.{List, []}
-use mathlib.Core.Option.{Option, none, some}
+use Rattle.std.specs.Prelude.{Option, Some, None}
 use Prim.Native.Nat.{ℕ}
 use native.Mathlib.Omega.{arith}
 use lib.Dec.{leb}
 use Rattle.rows.specs.declared.layout.Range.{Range}
-use Rattle.rows.specs.declared.layout.Optional.{Optional}
-use Rattle.rows.specs.declared.layout.Optional.TheVariants.{Absent, Row}
 use Rattle.codes.specs.Errors.{place_of}
 use Rattle.codes.specs.Outcome.{too_far, variable_in_literal, most_open}
 use Rattle.graphql.specs.Run.{here, Event, Choices, Res, M, pure, halt, fail, when, onward, ◌>>=◌}
@@ -23,7 +21,6 @@ use Rattle.graphql.specs.Request.{Request}
 use Rattle.graphql.specs.Complete.{Leaf, given, a_leaf, field_error, field_place, answered, coerce_arguments, resolve_field_value, try_nullify}
 use Rattle.graphql.specs.Complete.{complete_value, complete_resolved, complete_item}
 use Rattle.graphql.specs.Complete as defined
-use Rattle.lookup.specs.Found.{row_of}
 use Rattle.input_coercion.specs.Ends.{Checks}
 use Rattle.input_coercion.specs.Coerced.{of_arguments}
 use Rattle.input_coercion.specs.declared.check.Failure.{Failure}
@@ -64,24 +61,24 @@ onward_same {A} m n f k e = ap (λ (z : Res A). onward z f) e
 
 -- ---- ResolveFieldValue
 
-not_found : (o : Option ℕ) → Absent ≡ row_of o → o ≡ none
-not_found none e = refl
-not_found (some row) e = absurd (let z : ◌≡◌ {A = ℕ} 0 1 = cc in omega arith)
+not_found : (o : Option ℕ) → None ≡ o → o ≡ None
+not_found None e = refl
+not_found (Some row) e = absurd (let z : ◌≡◌ {A = ℕ} 0 1 = cc in omega arith)
 
-found : (o : Option ℕ) {row : ℕ} → Row row ≡ row_of o → o ≡ some row
-found none e = absurd (let z : ◌≡◌ {A = ℕ} 0 1 = cc in omega arith)
-found (some row') e = cc
+found : (o : Option ℕ) {row : ℕ} → Some row ≡ o → o ≡ Some row
+found None e = absurd (let z : ◌≡◌ {A = ℕ} 0 1 = cc in omega arith)
+found (Some row') e = cc
 
-module _ {arguments gives literals variables answers : List ℕ} {asked : Asked} {rows : Range} {name : ℕ} {o : Optional}
-    (n : o ≡ row_of (field_answer answers rows name)) where
-  pub field_unanswered : o ≡ Absent → ResolvesField arguments gives literals variables answers asked rows name resolved.Error
+module _ {arguments gives literals variables answers : List ℕ} {asked : Asked} {rows : Range} {name : ℕ} {o : Option ℕ}
+    (n : o ≡ (field_answer answers rows name)) where
+  pub field_unanswered : o ≡ None → ResolvesField arguments gives literals variables answers asked rows name resolved.Error
   unfolding resolve_field_value answered
   field_unanswered e = record {
     gave = λ pool names refs types members fields sets selections fragments nodes v g args a.
         rw (not_found (field_answer answers rows name) (sym e ∙ n)) (λ k. refl);
   }
 
-  pub field_resolved : {row : ℕ} {r : Resolved} → o ≡ Row row → ResolvesRow arguments gives literals variables answers asked row r
+  pub field_resolved : {row : ℕ} {r : Resolved} → o ≡ Some row → ResolvesRow arguments gives literals variables answers asked row r
       → ResolvesField arguments gives literals variables answers asked rows name r
   unfolding resolve_field_value answered
   field_resolved e h = record {

@@ -2,7 +2,7 @@
 use mathlib.Core.Path.{◌≡◌, refl, sym, ap, ◌∙◌}
 use mathlib.Core.Bool.{Bool, true, false, cond, ◌&&◌}
 use mathlib.Core.List.{List, [], ◌∷◌}
-use mathlib.Core.Option.{Option, none, some}
+use Rattle.std.specs.Prelude.{Option, Some, None}
 use Prim.Native.Nat.{ℕ}
 use native.Mathlib.Omega.{arith}
 use lib.Dec.{eqb}
@@ -72,8 +72,8 @@ module _ (Q : Request) (g : Group) (p : Path) where
 
   defined : (o : Option ℕ) → AtField (type_defined Q o g p)
   unfolding type_defined place_of
-  defined none = to_error error.UndefinedType refl refl
-  defined (some type) = value type
+  defined None = to_error error.UndefinedType refl refl
+  defined (Some type) = value type
 
   named : (r : TypeRef) → AtField (named_type Q r g p)
   unfolding named_type place_of
@@ -93,8 +93,8 @@ module _ (Q : Request) (g : Group) (p : Path) where
 
   enum : (type : ℕ) (l : Leaf) (o : Option (List ℕ)) → AtField (enum_leaf Q type l o g p)
   unfolding enum_leaf place_of
-  enum type l none = to_error error.NotAnEnumValue refl refl
-  enum type l (some s) = test _ (value _) (to_error error.NotAnEnumValue refl refl)
+  enum type l None = to_error error.NotAnEnumValue refl refl
+  enum type l (Some s) = test _ (value _) (to_error error.NotAnEnumValue refl refl)
 
   leafs : (type : ℕ) (k : TypeKind) (l : Leaf) → AtField (leaf_at Q type k l g p)
   unfolding leaf_at place_of
@@ -117,8 +117,8 @@ module _ (Q : Request) (g : Group) (p : Path) where
   abstract_type : (possible : ℕ → Bool) (e : FieldError) → place_of (number_of e) ≡ FirstField → (o : Option ℕ)
       → AtField (resolve_abstract_type Q possible e o g p)
   unfolding resolve_abstract_type place_of
-  abstract_type possible e h none = to_error error.ObjectTypeUnknown refl refl
-  abstract_type possible e h (some type) = test (possible type) (value type) (to_error e h refl)
+  abstract_type possible e h None = to_error error.ObjectTypeUnknown refl refl
+  abstract_type possible e h (Some type) = test (possible type) (value type) (to_error e h refl)
 
   objects : (type : ℕ) (k : TypeKind) (n : ℕ) → AtField (object_type Q type k n g p)
   unfolding object_type place_of

@@ -2,7 +2,7 @@
 use mathlib.Core.Path.{◌≡◌, refl, sym, ap, ◌∙◌}
 use mathlib.Core.Bool.{Bool}
 use mathlib.Core.List.{List}
-use mathlib.Core.Option.{Option, none, some}
+use Rattle.std.specs.Prelude.{Option, Some, None}
 use Prim.Native.Nat.{ℕ, suc, ◌-◌, ◌≤◌, ◌<◌}
 use native.Mathlib.Omega.{arith}
 use Rattle.rows.specs.Names.{name_text}
@@ -66,10 +66,10 @@ module _ {types fields arguments selections nodes literals variables answers : L
 
 -- ---- which definition a word says
 
-says_some : (o : Option Definition) → (0 ≡ definition_code o → ⊥) → (d : Definition) × (o ≡ some d)
+says_some : (o : Option Definition) → (0 ≡ definition_code o → ⊥) → (d : Definition) × (o ≡ Some d)
 unfolding definition_code
-says_some none e = absurd (e refl)
-says_some (some d) e = (d, refl)
+says_some None e = absurd (e refl)
+says_some (Some d) e = (d, refl)
 
 -- ---- the group, by its definition
 
@@ -83,7 +83,7 @@ module _ (Q : Request) (path : Path) (object : ℕ) (rows : Range) (g : Group) w
 
   -- the task, one segment further down
   group_step : (last : ℕ) → path.count < 32 → segment_of last ≡ name g.key → (d : Definition)
-      → execute_group Q (doing Q path.count) object rows (path_of path) g (some d)
+      → execute_group Q (doing Q path.count) object rows (path_of path) g (Some d)
       ≡ execute_field Q (doing Q (suc path.count)) object rows g d (spot_at path last)
   unfolding execute_group step
   group_step last room seg d = rw seg (run_down Q room _ _)

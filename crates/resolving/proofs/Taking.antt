@@ -1,7 +1,7 @@
 -- The answer in a row and an argument that is echoed, arm by arm. Assumes nothing.
 use mathlib.Core.Path.{◌≡◌, refl}
 use mathlib.Core.List.{List, []}
-use mathlib.Core.Option.{Option, none, some}
+use Rattle.std.specs.Prelude.{Option, Some, None}
 use Prim.Native.Nat.{ℕ, suc, ◌≤◌}
 use native.Mathlib.Decide.{dec_le}
 use native.Mathlib.Omega.{arith}
@@ -38,11 +38,11 @@ use Rattle.resolving.specs.declared.resolve.Resolved.TheVariants as resolving
 
 -- ---- An argument
 
-echo_none : (Q : Request) (n : ℕ) {found : Option Json} → found ≡ none → Gave Q (echoed Q n found) resolving.Error
+echo_none : (Q : Request) (n : ℕ) {found : Option Json} → found ≡ None → Gave Q (echoed Q n found) resolving.Error
 unfolding echoed
 echo_none Q n h = rw h (λ k. refl)
 
-echo_some : (Q : Request) (n : ℕ) {found : Option Json} {j : Json} (l : code.Leaf) → found ≡ some j → Valuing Q l j
+echo_some : (Q : Request) (n : ℕ) {found : Option Json} {j : Json} (l : code.Leaf) → found ≡ Some j → Valuing Q l j
     → Gave Q (echoed Q n found) (resolving.Given (value.Leaf l))
 unfolding echoed
 echo_some Q n {j = j} l h m = rw h (record { taken = record { origin = from_argument n; json = j }; means = m; is = λ k. refl })

@@ -25,7 +25,7 @@ use leaves::leaf::Leaf;
 use lookup::named::{field_answer, is_non_null};
 use planning::layout::{DEFINED, TYPENAME, UNDEFINED};
 use rows::document::{field_selection, selection_place};
-use rows::layout::{Optional, Range};
+use rows::layout::Range;
 use rows::names::name_text;
 use rows::schema::{TypeRef, field_at, type_at, type_ref_at};
 use tokens::json::put_string;
@@ -255,10 +255,8 @@ fn resolve_field_value(
     ensures { ResolvesField arguments.now given.now literals.now variables.now answers.now asked rows name result }
 {
     match field_answer(answers, rows, name) {
-        Optional::Absent => Resolved::Error,
-        Optional::Row(row) => resolve_row(
-            arguments, given, literals, variables, answers, asked, row,
-        ),
+        None => Resolved::Error,
+        Some(row) => resolve_row(arguments, given, literals, variables, answers, asked, row),
     }
 }
 

@@ -1,8 +1,7 @@
 -- A table is a list of words, a fixed number of words a row. What every table has: rows, and words in columns.
 use Rattle.std.specs.Prelude.{List, Bool, true, ◌&&◌, cond, ℕ, zero, suc, ◌+◌, ◌*◌, ◌-◌, ◌/◌, min, length, get_or, eqb}
 use Rattle.rows.specs.Limits.{most_rows}
-use Rattle.rows.specs.declared.layout.Optional.{Optional}
-use Rattle.rows.specs.declared.layout.Optional.TheVariants.{Absent, Row}
+use Rattle.std.specs.Prelude.{Option, Some, None}
 
 -- every number below n passes the test
 unfoldable pub all : (ℕ → Bool) → ℕ → Bool
@@ -18,5 +17,5 @@ unfoldable pub cell : List ℕ → ℕ → ℕ → ℕ → ℕ
 cell t width row column = get_or t (row * width + column) 0
 
 -- a word that may name a row: 0 for none, and otherwise one more than the row's number
-abbrev pub option_of : ℕ → Optional
-option_of word = cond (eqb word 0) Absent (Row (word - 1))
+abbrev pub option_of : ℕ → Option ℕ
+option_of word = cond (eqb word 0) None (Some (word - 1))

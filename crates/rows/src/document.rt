@@ -8,7 +8,7 @@ use crate::columns::{
     SELECTION_PLACE, SELECTION_SET, SELECTION_SKIP, SELECTION_TYPE, SET_SELECTION_COUNT,
     SET_SELECTIONS,
 };
-use crate::layout::{Optional, Range, cell, optional_row};
+use crate::layout::{Range, cell, optional_row};
 
 pub const SET_WIDTH: usize = 2;
 
@@ -41,7 +41,7 @@ pub struct FieldSelection {
 pub enum Selected {
     Field(FieldSelection),
     Spread { name: u32 },
-    Inline { condition: Optional, set: u32 },
+    Inline { condition: Option<u32>, set: u32 },
     Unknown,
 }
 

@@ -11,13 +11,6 @@ pub struct Range {
     pub count: u32,
 }
 
-// A row, or none: the word is 0 for none, and otherwise one more than the row's number.
-#[derive(Clone, Copy)]
-pub enum Optional {
-    Absent,
-    Row(u32),
-}
-
 // How many rows a table has. A row's number is a word, so no more are counted than words can number.
 pub fn row_count(t: &[u32], width: usize) -> u32
     requires { 0 < width }
@@ -49,14 +42,10 @@ pub fn word(t: &[u32], width: usize, row: u32, column: usize) -> u32
     t[(row as usize) * width + column]
 }
 
-pub(crate) fn optional_row(word: u32) -> Optional
+pub(crate) fn optional_row(word: u32) -> Option<u32>
     ensures { result ≡ option_of word }
 {
-    if word == 0 {
-        Optional::Absent
-    } else {
-        Optional::Row(word - 1)
-    }
+    if word == 0 { None } else { Some(word - 1) }
 }
 
 // Both sides are looked at in any case: straight code is proved by rewriting with what each side is.

@@ -8,7 +8,7 @@ use crate::columns::{
     TYPE_FIELD_COUNT, TYPE_FIELDS, TYPE_KIND, TYPE_MEMBER_COUNT, TYPE_MEMBERS, TYPE_NAME,
     TYPE_REF_KIND, TYPE_REF_NON_NULL, TYPE_REF_OF,
 };
-use crate::layout::{Optional, Range, cell, optional_row};
+use crate::layout::{Range, cell, optional_row};
 
 pub const TYPE_REF_WIDTH: usize = 3;
 
@@ -51,7 +51,7 @@ pub struct TypeDef {
 pub struct Field {
     pub name: u32,
     pub ty: u32,
-    pub default: Optional,
+    pub default: Option<u32>,
     pub place: u32,
     pub arguments: Range,
 }
@@ -60,7 +60,7 @@ pub struct Field {
 pub struct Argument {
     pub name: u32,
     pub ty: u32,
-    pub default: Optional,
+    pub default: Option<u32>,
     pub place: u32,
 }
 

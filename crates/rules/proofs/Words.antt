@@ -12,7 +12,7 @@ use Rattle.rows.specs.Rows.{option_of}
 use Rattle.rows.specs.Document.{condition_of}
 use Rattle.rules.specs.Rows.{row_or_none}
 use Rattle.rules.specs.Document.{condition_lawful}
-use Rattle.rows.specs.declared.layout.Optional.TheVariants.{Absent, Row}
+use Rattle.std.specs.Prelude.{Some, None}
 use Rattle.rows.specs.declared.document.Condition.TheVariants as condition
 
 -- two tests that say the same
@@ -25,7 +25,7 @@ same_truth false false f g = refl
 pub option_row : (count word : ℕ) → row_or_none count (option_of word) ≡ leb word count
 option_row count word = go (eqb word 0) refl
   where
-    go : (b : Bool) → eqb word 0 ≡ b → row_or_none count (cond b Absent (Row (word - 1))) ≡ leb word count
+    go : (b : Bool) → eqb word 0 ≡ b → row_or_none count (cond b None (Some (word - 1))) ≡ leb word count
     go true e = let z = eqb-true word 0 e in sym (le-leb word count (omega arith))
     go false e =
         let n = eqb-false word 0 e in

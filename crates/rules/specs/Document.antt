@@ -6,8 +6,7 @@ use Rattle.rows.specs.Rows.{all, cell, rows_of, option_of}
 use Rattle.rows.specs.Document.{set_at, selection_of, selection_at, given_at, fragment_at}
 use Rattle.rules.specs.Rows.{is_row, row_or_none, within, is_new, distinct}
 use Rattle.rows.specs.declared.layout.Range.{Range}
-use Rattle.rows.specs.declared.layout.Optional.{Optional}
-use Rattle.rows.specs.declared.layout.Optional.TheVariants as optional
+use Rattle.std.specs.Prelude.{Option, Some, None}
 use Rattle.rows.specs.declared.document.Condition.{Condition}
 use Rattle.rows.specs.declared.document.Condition.TheVariants as condition
 use Rattle.rows.specs.declared.document.FieldSelection.{FieldSelection}
@@ -80,19 +79,19 @@ abbrev pub fragment_name_new : List ℕ → ℕ → Bool
 fragment_name_new fragments row = is_new fragments fragment_width 0 0 row
 
 -- the set that a selection owns: a field's child set, an inline fragment's set
-abbrev pub owned_of : ℕ → ℕ → Optional
+abbrev pub owned_of : ℕ → ℕ → Option ℕ
 owned_of kind set =
-    cond (eqb kind 0) (cond (eqb set 0) optional.Absent (optional.Row set))
-    (cond (eqb kind 2) (optional.Row set)
-    optional.Absent)
+    cond (eqb kind 0) (cond (eqb set 0) None (Some set))
+    (cond (eqb kind 2) (Some set)
+    None)
 
-unfoldable pub owned_set : List ℕ → ℕ → Optional
+unfoldable pub owned_set : List ℕ → ℕ → Option ℕ
 owned_set selections row = owned_of (cell selections selection_width row 0) (cell selections selection_width row 8)
 
 -- "A child set has a larger number than its parent."
-abbrev pub larger_than : ℕ → Optional → Bool
-larger_than set optional.Absent = true
-larger_than set (optional.Row child) = ltb set child
+abbrev pub larger_than : ℕ → Option ℕ → Bool
+larger_than set None = true
+larger_than set (Some child) = ltb set child
 
 abbrev pub child_larger : List ℕ → ℕ → ℕ → Bool
 child_larger selections set row = larger_than set (owned_set selections row)
@@ -105,16 +104,16 @@ child_sets_larger sets selections row = children_larger selections row (set_at s
 
 -- "No set belongs to two owners (operation, field, inline fragment, fragment)."
 -- A set that an owner has is not the operation's, and none of the first n selections owns it.
-abbrev pub owns_other : ℕ → Optional → Bool
-owns_other set optional.Absent = true
-owns_other set (optional.Row other) = not (eqb set other)
+abbrev pub owns_other : ℕ → Option ℕ → Bool
+owns_other set None = true
+owns_other set (Some other) = not (eqb set other)
 
 unfoldable pub owned_nowhere : List ℕ → ℕ → ℕ → Bool
 owned_nowhere selections set n = all (λ j. owns_other set (owned_set selections j)) n
 
-abbrev pub alone : List ℕ → ℕ → Optional → Bool
-alone selections n optional.Absent = true
-alone selections n (optional.Row set) = not (eqb set 0) && owned_nowhere selections set n
+abbrev pub alone : List ℕ → ℕ → Option ℕ → Bool
+alone selections n None = true
+alone selections n (Some set) = not (eqb set 0) && owned_nowhere selections set n
 
 -- a selection owns its set alone among the operation and the selections before it
 abbrev pub selection_owns_alone : List ℕ → ℕ → Bool
@@ -123,4 +122,4 @@ selection_owns_alone selections row = alone selections row (owned_set selections
 -- a fragment among the operation, all selections and the fragments before it
 abbrev pub fragment_owns_alone : List ℕ → List ℕ → ℕ → Bool
 fragment_owns_alone selections fragments row =
-    alone selections (rows_of selections selection_width) (optional.Row (fragment_at fragments row).set) && is_new fragments fragment_width 2 0 row
+    alone selections (rows_of selections selection_width) (Some (fragment_at fragments row).set) && is_new fragments fragment_width 2 0 row

@@ -1,7 +1,7 @@
 -- "Names, 12 to 512: 1 to 64 bytes, `[_A-Za-z][_0-9A-Za-z]*`, no two equal. Names 0 to 11 are `__typename`, `Int`, `Float`,
 -- `String`, `Boolean`, `ID`, `__schema`, `__type`, `fields`, `interfaces`, `possibleTypes`, `inputFields`."
 use Rattle.std.specs.Prelude.{List, Bool, true, not, ◌&&◌, ℕ, leb}
-use Rattle.std.proofs.Math.Option.{Option, none, some}
+use Rattle.std.specs.Prelude.{Option, Some, None}
 use Prim.Native.String.{String}
 use Rattle.std.proofs.Math.ListN.{get_elem?}
 use Rattle.text.specs.Names.{is_name}
@@ -20,8 +20,8 @@ name_spelled pool names row =
 
 -- "Names 0 to 11 are ..": whether these bytes may stand at this row
 abbrev pub spelled_as : Option String → List ℕ → Bool
-spelled_as none name = true
-spelled_as (some s) name = same name (ascii s)
+spelled_as None name = true
+spelled_as (Some s) name = same name (ascii s)
 
 abbrev pub reserved_as : ℕ → List ℕ → Bool
 reserved_as row name = spelled_as (get_elem? reserved row) name

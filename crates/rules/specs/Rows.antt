@@ -2,16 +2,15 @@
 use Rattle.std.specs.Prelude.{List, Bool, true, not, ◌&&◌, ◌||◌, ℕ, ◌+◌, ◌/◌, ◌%◌, length, ltb, leb, eqb}
 use Rattle.rows.specs.Rows.{all, cell}
 use Rattle.rows.specs.declared.layout.Range.{Range}
-use Rattle.rows.specs.declared.layout.Optional.{Optional}
-use Rattle.rows.specs.declared.layout.Optional.TheVariants.{Absent, Row}
+use Rattle.std.specs.Prelude.{Option, Some, None}
 
 -- "A row number names a row that is there.", in a table of so many rows
 abbrev pub is_row : ℕ → ℕ → Bool
 is_row count row = ltb row count
 
-abbrev pub row_or_none : ℕ → Optional → Bool
-row_or_none count Absent = true
-row_or_none count (Row row) = is_row count row
+abbrev pub row_or_none : ℕ → Option ℕ → Bool
+row_or_none count None = true
+row_or_none count (Some row) = is_row count row
 
 -- every row of the range is there
 abbrev pub within : ℕ → Range → Bool

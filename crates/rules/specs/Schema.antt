@@ -5,7 +5,7 @@ use Rattle.rows.specs.Layout.{type_width, field_width, argument_width}
 use Rattle.rows.specs.Rows.{rows_of}
 use Rattle.rows.specs.Schema.{type_ref_at, type_at, member_at, field_at, argument_at}
 use Rattle.rules.specs.Rows.{is_row, row_or_none, within, is_new, distinct}
-use Rattle.rows.specs.declared.layout.Optional.{Optional}
+use Rattle.std.specs.Prelude.{Option}
 use Rattle.rows.specs.declared.schema.TypeRef.{TypeRef}
 use Rattle.rows.specs.declared.schema.TypeRef.TheVariants.{Named, ListOf, Unknown as UnknownRef}
 use Rattle.rows.specs.declared.schema.TypeKind.{TypeKind}
@@ -52,7 +52,7 @@ abbrev pub member_row : ℕ → List ℕ → ℕ → Bool
 member_row names members row = is_row names (member_at members row)
 
 -- "Fields and arguments .., with type reference, literal default or none, and place": what the two have in common
-abbrev pub argument_lawful : ℕ → ℕ → ℕ → ℕ → ℕ → Optional → Bool
+abbrev pub argument_lawful : ℕ → ℕ → ℕ → ℕ → ℕ → Option ℕ → Bool
 argument_lawful names refs literals name ty default = (is_row names name && is_row refs ty) && row_or_none literals default
 
 -- and none of the fields is `__typename`, the first of the names

@@ -13,7 +13,7 @@ use rows::document::{
     FRAGMENT_WIDTH, GIVEN_WIDTH, SELECTION_WIDTH, Selected, fragment_at, given_at, set_at,
     what_is_selected,
 };
-use rows::layout::{Optional, Range, cell, row_count};
+use rows::layout::{Range, cell, row_count};
 
 pub fn set_row(selections: u32, sets: &[u32], row: u32) -> bool
     ensures { result ≡ set_row selections sets.now row }
@@ -148,24 +148,18 @@ pub fn fragment_name_is_new(fragments: &[u32], row: u32) -> bool
     is_new(fragments, FRAGMENT_WIDTH, FRAGMENT_NAME, 0, row)
 }
 
-fn owned_of(kind: u32, set: u32) -> Optional
+fn owned_of(kind: u32, set: u32) -> Option<u32>
     ensures { result ≡ owned_of kind set }
 {
     match kind {
-        0 => {
-            if set == 0 {
-                Optional::Absent
-            } else {
-                Optional::Row(set)
-            }
-        }
-        2 => Optional::Row(set),
-        _ => Optional::Absent,
+        0 => { if set == 0 { None } else { Some(set) } }
+        2 => Some(set),
+        _ => None,
     }
 }
 
 // The set that a selection owns.
-pub fn owned_set(selections: &[u32], row: usize) -> Optional
+pub fn owned_set(selections: &[u32], row: usize) -> Option<u32>
     requires { row < 2 ^ 40 }
     ensures { result ≡ owned_set selections.now row }
 {
@@ -175,12 +169,12 @@ pub fn owned_set(selections: &[u32], row: usize) -> Optional
     )
 }
 
-fn is_larger_than(set: u32, owned: Optional) -> bool
+fn is_larger_than(set: u32, owned: Option<u32>) -> bool
     ensures { result ≡ larger_than set owned }
 {
     match owned {
-        Optional::Absent => true,
-        Optional::Row(child) => set < child,
+        None => true,
+        Some(child) => set < child,
     }
 }
 
@@ -212,12 +206,12 @@ pub fn child_sets_are_larger(sets: &[u32], selections: &[u32], row: u32) -> bool
     children_are_larger(selections, row, set_at(sets, row))
 }
 
-fn is_other_set(set: u32, owned: Optional) -> bool
+fn is_other_set(set: u32, owned: Option<u32>) -> bool
     ensures { result ≡ owns_other set owned }
 {
     match owned {
-        Optional::Absent => true,
-        Optional::Row(other) => set != other,
+        None => true,
+        Some(other) => set != other,
     }
 }
 
@@ -241,12 +235,12 @@ fn is_owned_nowhere(selections: &[u32], set: u32, n: u32) -> bool
     true
 }
 
-fn is_alone(selections: &[u32], row: u32, owned: Optional) -> bool
+fn is_alone(selections: &[u32], row: u32, owned: Option<u32>) -> bool
     ensures { result ≡ alone selections.now row owned }
 {
     match owned {
-        Optional::Absent => true,
-        Optional::Row(set) => (set != 0) & is_owned_nowhere(selections, set, row),
+        None => true,
+        Some(set) => (set != 0) & is_owned_nowhere(selections, set, row),
     }
 }
 
@@ -262,5 +256,5 @@ pub fn fragment_owns_alone(selections: &[u32], fragments: &[u32], row: u32) -> b
     let fragment = fragment_at(fragments, row);
     let count = row_count(selections, SELECTION_WIDTH);
     let new = is_new(fragments, FRAGMENT_WIDTH, FRAGMENT_SET, 0, row);
-    is_alone(selections, count, Optional::Row(fragment.set)) & new
+    is_alone(selections, count, Some(fragment.set)) & new
 }

@@ -2,7 +2,7 @@
 use mathlib.Core.Path.{◌≡◌, refl, ap, ◌∙◌}
 use mathlib.Core.Bool.{Bool}
 use mathlib.Core.List.{List, [], ◌∷◌}
-use mathlib.Core.Option.{Option, none, some}
+use Rattle.std.specs.Prelude.{Option, Some, None}
 use Prim.Native.Nat.{ℕ, zero, suc}
 use Rattle.rows.specs.Answers.{answer_at}
 use Rattle.rows.specs.declared.layout.Range.{Range}
@@ -41,8 +41,8 @@ module _ (pool names refs types members fields arguments sets selections givens 
 
   echo_root : (n : ℕ) (o : Option Json) → echoed Q n o ≡ echoed P n o
   unfolding echoed
-  echo_root n none = refl
-  echo_root n (some j) = refl
+  echo_root n None = refl
+  echo_root n (Some j) = refl
 
   resolve_root : (args : Arguments) (row : ℕ) (a : Answer) → resolved Q args row a ≡ resolved P args row a
   unfolding resolved
@@ -56,15 +56,15 @@ module _ (pool names refs types members fields arguments sets selections givens 
 
   answer_root : (args : Arguments) (o : Option ℕ) → answered Q args o ≡ answered P args o
   unfolding answered
-  answer_root args none = refl
-  answer_root args (some row) = resolve_root args row _
+  answer_root args None = refl
+  answer_root args (Some row) = resolve_root args row _
 
   -- ---- CompleteValue: the type, leaves
 
   defined_root : (o : Option ℕ) (g : Group) (p : Path) → type_defined Q o g p ≡ type_defined P o g p
   unfolding type_defined field_error field_place
-  defined_root none g p = refl
-  defined_root (some type) g p = refl
+  defined_root None g p = refl
+  defined_root (Some type) g p = refl
 
   named_root : (t : TypeRef) (g : Group) (p : Path) → named_type Q t g p ≡ named_type P t g p
   unfolding named_type field_error field_place
@@ -74,8 +74,8 @@ module _ (pool names refs types members fields arguments sets selections givens 
 
   enum_root : (type : ℕ) (l : Leaf) (o : Option (List ℕ)) (g : Group) (p : Path) → enum_leaf Q type l o g p ≡ enum_leaf P type l o g p
   unfolding enum_leaf field_error field_place
-  enum_root type l none g p = refl
-  enum_root type l (some s) g p = refl
+  enum_root type l None g p = refl
+  enum_root type l (Some s) g p = refl
 
   kind_root : (type : ℕ) (k : TypeKind) (l : Leaf) (g : Group) (p : Path) → leaf_at Q type k l g p ≡ leaf_at P type k l g p
   unfolding leaf_at scalar_leaf field_error field_place
@@ -96,8 +96,8 @@ module _ (pool names refs types members fields arguments sets selections givens 
   abstract_root : (possible : ℕ → Bool) (e : FieldError) (o : Option ℕ) (g : Group) (p : Path)
       → resolve_abstract_type Q possible e o g p ≡ resolve_abstract_type P possible e o g p
   unfolding resolve_abstract_type field_error field_place
-  abstract_root possible e none g p = refl
-  abstract_root possible e (some type) g p = refl
+  abstract_root possible e None g p = refl
+  abstract_root possible e (Some type) g p = refl
 
   type_root : (type : ℕ) (k : TypeKind) (n : ℕ) (g : Group) (p : Path) → object_type Q type k n g p ≡ object_type P type k n g p
   unfolding object_type object_named field_error field_place
@@ -114,8 +114,8 @@ module _ (pool names refs types members fields arguments sets selections givens 
   module _ (rec : Task → Path → M Val) where
     group_root : (type : ℕ) (rows : Range) (p : Path) (g : Group) (o : Option Definition) → execute_group Q rec type rows p g o ≡ execute_group P rec type rows p g o
     unfolding execute_group
-    group_root type rows p g none = refl
-    group_root type rows p g (some d) = refl
+    group_root type rows p g None = refl
+    group_root type rows p g (Some d) = refl
 
     set_below : (type : ℕ) (rows : Range) (set : List ℕ) (p : Path) → execute_selection_set Q rec type rows set p ≡ execute_selection_set P rec type rows set p
     unfolding execute_selection_set definition_of field_name

@@ -19,8 +19,7 @@ use Rattle.rules.specs.Rows.{row_or_none}
 use Rattle.tables.specs.Defaults.{each_of, closed_but, closed_to, closed, default_closed, field_default, argument_default, defaults_closed}
 use Rattle.tables.specs.Marking.{run, in_run, closed_in, Marked, parts_later, Nested, Defaulted, default_unmarked, row_unmarked}
 use Rattle.rows.specs.declared.layout.Range.{Range}
-use Rattle.rows.specs.declared.layout.Optional.{Optional}
-use Rattle.rows.specs.declared.layout.Optional.TheVariants.{Absent, Row}
+use Rattle.std.specs.Prelude.{Option, Some, None}
 use Rattle.rows.specs.declared.json.Literal.{Literal}
 use Rattle.rows.specs.declared.json.Literal.TheVariants as literal
 use Rattle.rows.proofs.Every.{all_none, all_same, all_broken, and_left, and_right, or_right}
@@ -209,10 +208,10 @@ pub mark_end : (literals runs : List ℕ) (row : ℕ) → row ≤ 0 → Marked l
 mark_end literals runs row h m = let e : row ≡ 0 = omega arith in rw e at m
 
 -- a default is closed as its run says
-pub default_closed_lem : (literals runs : List ℕ) (d : Optional) → Marked literals runs 0 → row_or_none (rows_of literals literal_width) d ≡ true
+pub default_closed_lem : (literals runs : List ℕ) (d : Option ℕ) → Marked literals runs 0 → row_or_none (rows_of literals literal_width) d ≡ true
     → default_unmarked runs d ≡ default_closed literals d
-default_closed_lem literals runs Absent m e = refl
-default_closed_lem literals runs (Row row) m e =
+default_closed_lem literals runs None m e = refl
+default_closed_lem literals runs (Some row) m e =
     let h : row < rows_of literals literal_width = ltb-true row _ e in
     m.right (record { first = row; count = 1 }) (omega arith) (omega arith) ∙ of_one (closed literals) row
 

@@ -10,7 +10,7 @@ use Rattle.rules.specs.Rows.{is_row, row_or_none, within}
 use Rattle.rules.specs.Schema.{argument_lawful, field_lawful, field_row, argument_row}
 use Rattle.rules.specs.Json.{literal_lawful, literal_row}
 use Rattle.tables.specs.Marking.{parts_later}
-use Rattle.rows.specs.declared.layout.Optional.{Optional}
+use Rattle.std.specs.Prelude.{Option}
 use Rattle.rows.specs.declared.schema.Field.{Field}
 use Rattle.rows.specs.declared.json.Literal.{Literal}
 use Rattle.rows.specs.declared.json.Literal.TheVariants as literal
@@ -36,7 +36,7 @@ literal_parts_lem pool names count literals row e =
     parts_later_lem pool names count row (literal_at literals row)
     (and_right (is_row names (literal_key literals row)) (literal_lawful pool names count row (literal_at literals row)) e)
 
-of_argument_lem : (names refs literals name ty : ℕ) (d : Optional) → argument_lawful names refs literals name ty d ≡ true → row_or_none literals d ≡ true
+of_argument_lem : (names refs literals name ty : ℕ) (d : Option ℕ) → argument_lawful names refs literals name ty d ≡ true → row_or_none literals d ≡ true
 of_argument_lem names refs literals name ty d e = and_right (is_row names name && is_row refs ty) (row_or_none literals d) e
 
 pub argument_default_lem : (names refs literals : ℕ) (arguments : List ℕ) (row : ℕ) → argument_row names refs literals arguments row ≡ true

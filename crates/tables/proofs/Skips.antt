@@ -12,13 +12,12 @@ use Rattle.rows.specs.Limits.{most_selections}
 use Rattle.rules.specs.Document.{owned_set, larger_than, child_larger, children_larger}
 use Rattle.tables.specs.ByTable.{Skips, LargerUpTo}
 use Rattle.rows.specs.declared.layout.Range.{Range}
-use Rattle.rows.specs.declared.layout.Optional.{Optional}
-use Rattle.rows.specs.declared.layout.Optional.TheVariants.{Absent, Row}
+use Rattle.std.specs.Prelude.{Option, Some, None}
 use Rattle.rows.proofs.Every.{all_each, all_broken}
 
-smaller_set : (s t : ℕ) (owned : Optional) → s ≤ t → larger_than t owned ≡ true → larger_than s owned ≡ true
-smaller_set s t Absent h e = refl
-smaller_set s t (Row child) h e = lt-ltb s child (omega (arith, ltb-true t child e))
+smaller_set : (s t : ℕ) (owned : Option ℕ) → s ≤ t → larger_than t owned ≡ true → larger_than s owned ≡ true
+smaller_set s t None h e = refl
+smaller_set s t (Some child) h e = lt-ltb s child (omega (arith, ltb-true t child e))
 
 abbrev fresh : List ℕ
 fresh = replicate 2049 0

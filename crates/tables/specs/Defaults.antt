@@ -5,8 +5,7 @@ use Rattle.rows.specs.Rows.{all, rows_of}
 use Rattle.rows.specs.Schema.{field_at, argument_at}
 use Rattle.rows.specs.Json.{literal_at}
 use Rattle.rows.specs.declared.layout.Range.{Range}
-use Rattle.rows.specs.declared.layout.Optional.{Optional}
-use Rattle.rows.specs.declared.layout.Optional.TheVariants.{Absent, Row}
+use Rattle.std.specs.Prelude.{Option, Some, None}
 use Rattle.rows.specs.declared.json.Literal.{Literal}
 use Rattle.rows.specs.declared.json.Literal.TheVariants as literal
 
@@ -38,9 +37,9 @@ closed_to literals (suc depth) row = closed_but (closed_to literals depth) (lite
 abbrev pub closed : List ℕ → ℕ → Bool
 closed literals row = closed_to literals (rows_of literals literal_width) row
 
-abbrev pub default_closed : List ℕ → Optional → Bool
-default_closed literals Absent = true
-default_closed literals (Row row) = closed literals row
+abbrev pub default_closed : List ℕ → Option ℕ → Bool
+default_closed literals None = true
+default_closed literals (Some row) = closed literals row
 
 abbrev pub field_default : List ℕ → List ℕ → ℕ → Bool
 field_default fields literals row = default_closed literals (field_at fields row).default

@@ -8,8 +8,7 @@ use Rattle.rows.specs.Schema.{field_at, argument_at}
 use Rattle.rows.specs.Json.{literal_at}
 use Rattle.rules.specs.Rows.{row_or_none, later}
 use Rattle.rows.specs.declared.layout.Range.{Range}
-use Rattle.rows.specs.declared.layout.Optional.{Optional}
-use Rattle.rows.specs.declared.layout.Optional.TheVariants.{Absent, Row}
+use Rattle.std.specs.Prelude.{Option, Some, None}
 use Rattle.rows.specs.declared.json.Literal.{Literal}
 use Rattle.rows.specs.declared.json.Literal.TheVariants as literal
 use Rattle.tables.specs.Defaults.{each_of, closed}
@@ -38,9 +37,9 @@ closed_in runs (literal.Enum name) = true
 closed_in runs (literal.Variable name) = false
 closed_in runs literal.Unknown = true
 
-abbrev pub default_unmarked : List ℕ → Optional → Bool
-default_unmarked runs Absent = true
-default_unmarked runs (Row row) = in_run runs (record { first = row; count = 1 })
+abbrev pub default_unmarked : List ℕ → Option ℕ → Bool
+default_unmarked runs None = true
+default_unmarked runs (Some row) = in_run runs (record { first = row; count = 1 })
 
 -- the default in a column of a row
 abbrev pub row_unmarked : List ℕ → ℕ → ℕ → List ℕ → ℕ → Bool

@@ -1,6 +1,6 @@
 -- What the reading functions find at a position of a text, in the words of the definitions of Ascii, Utf8 and Numbers.
 use Rattle.std.specs.Prelude.{◌≡◌, true, false, List, ℕ, ◌+◌, ◌-◌, ◌*◌, ◌≤◌, ◌<◌, length, take, drop}
-use Rattle.std.proofs.Math.Option.{Option, none, some}
+use Rattle.std.specs.Prelude.{Option, Some, None}
 use Rattle.text.specs.Ascii.{is_ascii}
 use Rattle.text.specs.Utf8.{is_utf8, character_number}
 use Rattle.text.specs.declared.utf8.Decoded.{Decoded}
@@ -34,5 +34,5 @@ Decodes s at Bad = is_utf8 (drop at s) ≡ false
 
 -- what stands behind a part of a number that was looked for
 abbrev pub rest : List ℕ → Part → Option (List ℕ)
-rest s (Ends at) = some (drop at s)
-rest s Absent = none
+rest s (Ends at) = Some (drop at s)
+rest s Absent = None

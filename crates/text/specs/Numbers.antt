@@ -1,7 +1,7 @@
 -- The grammar of numbers of RFC 8259, section 6, and the floats among them: those with a fraction or an exponent.
 -- Nothing that may follow digits begins with a digit, so each part takes as many digits as there are.
 use Rattle.std.specs.Prelude.{Bool, cond, ◌&&◌, ◌||◌, List, [], ◌∷◌, ℕ, eqb}
-use Rattle.std.proofs.Math.Option.{Option, some}
+use Rattle.std.specs.Prelude.{Option, Some}
 use Rattle.text.specs.Grammar.{◌to◌, ◌∈◌, if_some, one, and_then, or_else, optional, is_there, is_end}
 
 -- DIGIT = %x30-39
@@ -15,7 +15,7 @@ digits (c ∷ s) = cond (DIGIT c) (digits s) (c ∷ s)
 
 -- 1*DIGIT
 unfoldable pub digits1 : List ℕ → Option (List ℕ)
-digits1 s = and_then (one DIGIT s) (λ t. some (digits t))
+digits1 s = and_then (one DIGIT s) (λ t. Some (digits t))
 
 -- decimal-point = %x2E
 unfoldable pub decimal_point : List ℕ → Option (List ℕ)
@@ -46,7 +46,7 @@ zero = one (λ c. eqb c 0x30)
 
 -- int = zero / ( digit1-9 *DIGIT )
 unfoldable pub int : List ℕ → Option (List ℕ)
-int s = or_else (zero s) (and_then (digit1_9 s) (λ t. some (digits t)))
+int s = or_else (zero s) (and_then (digit1_9 s) (λ t. Some (digits t)))
 
 -- frac = decimal-point 1*DIGIT
 unfoldable pub frac : List ℕ → Option (List ℕ)

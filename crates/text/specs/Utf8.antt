@@ -1,6 +1,6 @@
 -- UTF-8, as RFC 3629 defines it.
 use Rattle.std.specs.Prelude.{Bool, true, false, cond, not, ◌&&◌, List, [], ◌∷◌, ◌++◌, ℕ, ◌+◌, ◌-◌, ◌*◌, ◌%◌, ◌^◌, ◌≤◌, ◌<◌, leb, eqb, get_or}
-use Rattle.std.proofs.Math.Option.{Option, none, some}
+use Rattle.std.specs.Prelude.{Option, Some, None}
 use Rattle.text.specs.Grammar.{Range, ◌to◌, ◌∈◌, if_some}
 
 -- ---- Section 4, the ABNF
@@ -46,8 +46,8 @@ UTF8-char = UTF8-1 ++ (UTF8-2 ++ (UTF8-3 ++ UTF8-4))
 -- The ranges of the octets that follow the first octet a in a sequence of one of these forms. No two forms of UTF8-char
 -- share a first octet, so there is at most one.
 abbrev pub following : List Form → ℕ → Option (List Range)
-following [] a = none
-following ((first ▹ others) ∷ forms) a = cond (a ∈ first) (some others) (following forms a)
+following [] a = None
+following ((first ▹ others) ∷ forms) a = cond (a ∈ first) (Some others) (following forms a)
 
 -- Whether the octets are the rest of a UTF8-char, which lies in these ranges, and then any number of whole ones.
 unfoldable pub octets_after : List ℕ → List Range → Bool

@@ -1,7 +1,7 @@
 -- The definition gives a node one value, and a value one text; what lies where is then made of equations. Assumes nothing.
 use mathlib.Core.Path.{◌≡◌, refl, sym, ap, ◌∙◌}
 use mathlib.Core.List.{List, []}
-use mathlib.Core.Option.{Option, none, some}
+use Rattle.std.specs.Prelude.{Option, Some, None}
 use Prim.Native.Nat.{ℕ}
 use native.Mathlib.Omega.{arith}
 use lib.ListN.{length}
@@ -14,17 +14,17 @@ use Rattle.values.specs.declared.node.Put.TheVariants.{At}
 -- a run ends in one way
 ended_once : (v v' : Option Json) → ended v [] ≡ ended v' [] → v ≡ v'
 unfolding ended pure halt
-ended_once none none e = refl
-ended_once none (some j) e = absurd (let z : ◌≡◌ {A = ℕ} 0 1 = cc in omega arith)
-ended_once (some j) none e = absurd (let z : ◌≡◌ {A = ℕ} 0 1 = cc in omega arith)
-ended_once (some j) (some j') e = let s : j ≡ j' = cc in rw s
+ended_once None None e = refl
+ended_once None (Some j) e = absurd (let z : ◌≡◌ {A = ℕ} 0 1 = cc in omega arith)
+ended_once (Some j) None e = absurd (let z : ◌≡◌ {A = ℕ} 0 1 = cc in omega arith)
+ended_once (Some j) (Some j') e = let s : j ≡ j' = cc in rw s
 
 module _ (before : List ℕ) (at : ℕ) {after after' : List ℕ} {r r' : Put} where
   ends_once : (v : Option Json) → Ends v before at r after → Ends v before at r' after'
       → (r ≡ r') × (length after ≡ length after') × ((end : ℕ) → r ≡ At end → after ≡ after')
-  ends_once none q q' =
+  ends_once None q q' =
       (q.is ∙ sym q'.is, q.long ∙ sym q'.long, λ end e. let w = q.is in absurd (let z : ◌≡◌ {A = ℕ} 0 1 = cc in omega arith))
-  ends_once (some j) q q' =
+  ends_once (Some j) q q' =
       let same : after ≡ after' = q.writes.exact ∙ sym q'.writes.exact in
       (q.is ∙ ap At (q.writes.moved ∙ sym q'.writes.moved) ∙ sym q'.is, ap length same, λ end e. same)
 

@@ -1,7 +1,7 @@
 -- How the writing of a value ended: with its text and the position after it, or too far. Assumes nothing.
 use mathlib.Core.Path.{◌≡◌, refl}
 use mathlib.Core.List.{List, []}
-use mathlib.Core.Option.{Option, none, some}
+use Rattle.std.specs.Prelude.{Option, Some, None}
 use Prim.Native.Nat.{ℕ}
 use native.Mathlib.Omega.{arith}
 use lib.ListN.{length}
@@ -17,11 +17,11 @@ module _ {m : M Json} {before after : List ℕ} {at : ℕ} where
   -- the two ways
   pub ends_at : (j : Json) {end : ℕ} → ((c : Choices) → m c ≡ done j [] c) → Writes before after at end (print j) → Puts m before at (At end) after
   unfolding ended pure
-  ends_at j e w = record { value = some j; is = e; put = record { end = _; is = refl; writes = w } }
+  ends_at j e w = record { value = Some j; is = e; put = record { end = _; is = refl; writes = w } }
 
   pub ends_too_far : ((c : Choices) → m c ≡ stop too_far []) → length after ≡ length before → Puts m before at TooFar after
   unfolding ended halt
-  ends_too_far e l = record { value = none; is = e; put = record { is = refl; long = l } }
+  ends_too_far e l = record { value = None; is = e; put = record { is = refl; long = l } }
 
   -- and which it was
   module _ {r : Put} (q : Puts m before at r after) where
@@ -31,8 +31,8 @@ module _ {m : M Json} {before after : List ℕ} {at : ℕ} where
       where
         go : (v : Option Json) → ((c : Choices) → m c ≡ ended v c) → Ends v before at r after
             → (j : Json) × ((c : Choices) → m c ≡ done j [] c) × Writes before after at end (print j)
-        go none is put = let w = put.is in absurd (let z : ◌≡◌ {A = ℕ} 0 1 = cc in omega arith)
-        go (some j) is put = let w = put.is in let s : put.end ≡ end = cc in (j, is, rw s at put.writes)
+        go None is put = let w = put.is in absurd (let z : ◌≡◌ {A = ℕ} 0 1 = cc in omega arith)
+        go (Some j) is put = let w = put.is in let s : put.end ≡ end = cc in (j, is, rw s at put.writes)
 
     pub came_too_far : r ≡ TooFar → ((c : Choices) → m c ≡ stop too_far []) × (length after ≡ length before)
     unfolding ended halt
@@ -40,5 +40,5 @@ module _ {m : M Json} {before after : List ℕ} {at : ℕ} where
       where
         go : (v : Option Json) → ((c : Choices) → m c ≡ ended v c) → Ends v before at r after
             → ((c : Choices) → m c ≡ stop too_far []) × (length after ≡ length before)
-        go none is put = (is, put.long)
-        go (some j) is put = let w = put.is in absurd (let z : ◌≡◌ {A = ℕ} 0 1 = cc in omega arith)
+        go None is put = (is, put.long)
+        go (Some j) is put = let w = put.is in absurd (let z : ◌≡◌ {A = ℕ} 0 1 = cc in omega arith)

@@ -2,7 +2,7 @@
 use mathlib.Core.Path.{◌≡◌, refl}
 use mathlib.Core.Bool.{Bool, true, false}
 use mathlib.Core.List.{List, [], ◌∷◌, ◌++◌, map, append_assoc, append-nil}
-use mathlib.Core.Option.{some}
+use Rattle.std.specs.Prelude.{Some}
 use Prim.Native.Nat.{ℕ, zero, suc}
 use Rattle.tokens.specs.Escape.{quoted}
 use Rattle.writing.specs.Wrote.{bracketed}
@@ -46,11 +46,11 @@ module _ (inside : ℕ → M Json) (row : ℕ) (rows : List ℕ) (js : List Json
 module _ (key : ℕ → List ℕ) where
   unfoldable pub parts_text : (keyed : Bool) → List ℕ → List Json → List ℕ
   parts_text false rows js = print_items (items js)
-  parts_text true rows js = print_members (members (map key rows) (map some js))
+  parts_text true rows js = print_members (members (map key rows) (map Some js))
 
   unfoldable pub made : (keyed : Bool) → List ℕ → List Json → Json
   made false rows js = array (items js)
-  made true rows js = object (members (map key rows) (map some js))
+  made true rows js = object (members (map key rows) (map Some js))
 
   pub parts_none : (keyed : Bool) → parts_text keyed [] [] ≡ []
   unfolding parts_text print_items print_members items members
@@ -61,7 +61,7 @@ module _ (key : ℕ → List ℕ) where
       → parts_text keyed (row ∷ rows) (j ∷ js) ≡ label keyed (key row) ++ (print j ++ parts_text keyed rows js)
   unfolding parts_text label print_items print_members items members
   parts_more false row rows j js = refl
-  parts_more true row rows j js = rw (append_assoc (quoted (key row)) (58 ∷ []) (print j ++ print_members (members (map key rows) (map some js))))
+  parts_more true row rows j js = rw (append_assoc (quoted (key row)) (58 ∷ []) (print j ++ print_members (members (map key rows) (map Some js))))
 
   pub print_made : (keyed : Bool) (rows : List ℕ) (js : List Json)
       → print (made keyed rows js) ≡ bracketed (left keyed) (right keyed) (parts_text keyed rows js)

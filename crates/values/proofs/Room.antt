@@ -3,7 +3,7 @@
 use mathlib.Core.Path.{◌≡◌, refl, ◌∙◌}
 use mathlib.Core.Bool.{true, false}
 use mathlib.Core.List.{List, [], ◌∷◌, map}
-use mathlib.Core.Option.{some}
+use Rattle.std.specs.Prelude.{Some}
 use Prim.Native.Nat.{ℕ, zero, suc, ◌+◌, ◌*◌, ◌≤◌, ◌<◌, max}
 use native.Mathlib.Decide.{dec_le}
 use native.Mathlib.Omega.{arith}
@@ -67,7 +67,7 @@ items_deep [] = refl
 items_deep (j ∷ js) = rw (items_deep js)
 
 members_deep : (key : ℕ → List ℕ) (rows : List ℕ) (js : List Json) → length js ≡ length rows
-    → containers_of_members (members (map key rows) (map some js)) ≡ deepest js
+    → containers_of_members (members (map key rows) (map Some js)) ≡ deepest js
 unfolding containers_of_members members deepest
 members_deep key [] [] e = refl
 members_deep key [] (j ∷ js) e = absurd (omega arith)
@@ -154,7 +154,7 @@ module _ (j : Json) (log : Log) (c c' : Choices) where
         → Within room (containers j) j (object_of room inside' key rows)
     unfolding object_of containers
     object_within key rows e =
-        together rows (λ js. json.object (members (map key rows) (map some js))) (λ js l. rw (members_deep key rows js l)) (λ js. omega arith)
+        together rows (λ js. json.object (members (map key rows) (map Some js))) (λ js l. rw (members_deep key rows js l)) (λ js. omega arith)
         inside inside' big room law e
 
     node_within_lem : (pool nodes : List ℕ) (n : Node) → value_of pool nodes big inside n c ≡ done j log c'

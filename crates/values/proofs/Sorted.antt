@@ -2,7 +2,7 @@
 use mathlib.Core.Path.{◌≡◌, refl, sym}
 use mathlib.Core.Bool.{true, false}
 use mathlib.Core.List.{List, map}
-use mathlib.Core.Option.{some}
+use Rattle.std.specs.Prelude.{Some}
 use Prim.Native.Nat.{ℕ, zero, suc, ◌+◌, ◌*◌}
 use native.Mathlib.Omega.{arith}
 use Rattle.rows.specs.Strings.{text_of}
@@ -51,7 +51,7 @@ module _ (j : Json) (log : Log) (c c' : Choices) where
     by_variant (node.Array rows) e = together room (in_order inside (rows_in rows)) (λ js. json.array (json.items js)) (λ js. refl) e
     by_variant (node.Object rows) e =
         together room (in_order inside (rows_in rows))
-        (λ js. json.object (json.members (map (λ row. text_of pool (node_key nodes row)) (rows_in rows)) (map some js)))
+        (λ js. json.object (json.members (map (λ row. text_of pool (node_key nodes row)) (rows_in rows)) (map Some js)))
         (λ js. refl) e
     by_variant node.Unknown e = plainly json.null e
 
@@ -68,7 +68,7 @@ module _ (j : Json) (log : Log) (c c' : Choices) where
     by_literal (literal.List rows) e = together room (in_order inside (rows_in rows)) (λ js. json.array (json.items js)) (λ js. refl) e
     by_literal (literal.Object rows) e =
         together room (in_order inside (rows_in rows))
-        (λ js. json.object (json.members (map (λ row. name_text pool names (literal_key literals row)) (rows_in rows)) (map some js)))
+        (λ js. json.object (json.members (map (λ row. name_text pool names (literal_key literals row)) (rows_in rows)) (map Some js)))
         (λ js. refl) e
     by_literal (literal.Enum name) e = plainly (json.string (name_text pool names name)) e
     by_literal (literal.Variable name) e = absurd (let z : ◌≡◌ {A = ℕ} 0 1 = cc in omega arith)

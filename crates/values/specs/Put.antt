@@ -1,6 +1,6 @@
 -- What the functions that write a node ensure, by the definition of a node's value and of a value's text.
 use Rattle.std.specs.Prelude.{◌≡◌, Bool, true, false, List, [], ◌∷◌, ◌++◌, ℕ, zero, suc, ◌+◌, ◌≤◌, length}
-use Rattle.std.proofs.Math.Option.{Option, none, some}
+use Rattle.std.specs.Prelude.{Option, Some, None}
 use Rattle.rows.specs.Limits.{most_nodes}
 use Rattle.rows.specs.Strings.{text_of}
 use Rattle.rows.specs.Json.{node_at, node_key}
@@ -56,8 +56,8 @@ right true = 125
 
 -- how a node's value ends: it is too far, or it is there; nothing is logged, and no choice is read
 unfoldable pub ended : Option Json → M Json
-ended none = halt too_far
-ended (some j) = pure j
+ended None = halt too_far
+ended (Some j) = pure j
 
 -- the text of the value was written from `at` on, and the position is the one after it
 pub record PutsText (j : Json) (before : List ℕ) (at : ℕ) (r : Put) (after : List ℕ) : Type 0 where
@@ -71,8 +71,8 @@ pub record GaveUp (before : List ℕ) (r : Put) (after : List ℕ) : Type 0 wher
   pub long : length after ≡ length before
 
 abbrev pub Ends : Option Json → (before : List ℕ) (at : ℕ) (r : Put) (after : List ℕ) → Type 0
-Ends none before at r after = GaveUp before r after
-Ends (some j) before at r after = PutsText j before at r after
+Ends None before at r after = GaveUp before r after
+Ends (Some j) before at r after = PutsText j before at r after
 
 -- what a call came to that was to write the value of `m`
 pub record Puts (m : M Json) (before : List ℕ) (at : ℕ) (r : Put) (after : List ℕ) : Type 0 where

@@ -1,7 +1,7 @@
 -- The loop over the groups of a set, whatever the run of a group is: what holds at its head, and the turn, the way out and the end. How the code
 -- knows which slots are empty and where their entries begin is its own affair. Assumes nothing.
 use mathlib.Core.Path.{◌≡◌, refl, sym, ap, ◌∙◌}
-use mathlib.Core.Option.{Option, none, some}
+use Rattle.std.specs.Prelude.{Option, Some, None}
 use mathlib.Core.List.{List, [], ◌∷◌, ◌++◌, map, append_assoc, append-nil}
 use Prim.Native.Nat.{ℕ, suc, ◌+◌, ◌≤◌, ◌<◌}
 use native.Mathlib.Omega.{arith}
@@ -50,9 +50,9 @@ module _ {G : Type 0} (run : G → M Val) (key : G → List ℕ) (z : G) (cs : C
     pub so : Sofar cs groups errors₀ s.errs (filling run m gs slots) errors errs choice
     pub wrote : Wrote text₀ text s.at at (slotted key gs slots)
 
-  pub setting_begin : Setting (replicate (length gs) none) text₀ errors₀ s.at s.errs s.choice (length gs)
+  pub setting_begin : Setting (replicate (length gs) None) text₀ errors₀ s.at s.errs s.choice (length gs)
   setting_begin = record {
-    size = length-replicate (length gs) none;
+    size = length-replicate (length gs) None;
     free = empties_all Val (length gs);
     so = rw (filling_begin run gs (length gs) refl) (so_begin cs (taking run (length gs) gs) errors₀ s.errs s.choice);
     wrote = rw slotted_none (stay text₀ s.at);
@@ -65,19 +65,19 @@ module _ {G : Type 0} (run : G → M Val) (key : G → List ℕ) (z : G) (cs : C
   -- After a turn: the value of that slot, whose entry was written from `at` on, and what holds then.
   pub record Turned (slots : List (Option Val)) (j at : ℕ) (text text2 text3 errors2 : List ℕ) (d : Done) (m : ℕ) : Type 0 where
     pub value : Val
-    pub entered : Wrote text text2 at d.state.at (slot_entry key (group_at slots j) (some value))
-    pub setting : Setting (set slots (slot slots j) (some value)) text3 errors2 d.state.at d.state.errs d.state.choice m
+    pub entered : Wrote text text2 at d.state.at (slot_entry key (group_at slots j) (Some value))
+    pub setting : Setting (set slots (slot slots j) (Some value)) text3 errors2 d.state.at d.state.errs d.state.choice m
 
   -- That slot is there.
   pub setting_slot : {slots : List (Option Val)} {text errors : List ℕ} {at errs choice m j : ℕ}
       → Setting slots text errors at errs choice (suc m) → j < suc m
-      → (slot slots j < length slots) × (get_or slots (slot slots j) none ≡ none)
+      → (slot slots j < length slots) × (get_or slots (slot slots j) None ≡ None)
   setting_slot {slots} {j = j} h lt = open_slot slots j (omega (arith, h.free))
 
   -- The choice picks an empty slot, and its group is run.
   module _ {slots : List (Option Val)} {text errors : List ℕ} {at errs choice c m j : ℕ} (h : Setting slots text errors at errs choice (suc m))
       (lt : j < suc m) (picked : pick (suc m) (drop choice cs) ≡ done j [] (drop c cs)) where
-    next : Sofar cs groups errors₀ s.errs (run (group_at slots j) >>= λ v. filling run m gs (set slots (slot slots j) (some v))) errors errs c
+    next : Sofar cs groups errors₀ s.errs (run (group_at slots j) >>= λ v. filling run m gs (set slots (slot slots j) (Some v))) errors errs c
     next =
         so_is cs _ _ c h.so
         (filling_next run m gs slots j z (sym h.size) h.free lt (drop choice cs) picked)
@@ -97,13 +97,13 @@ module _ {G : Type 0} (run : G → M Val) (key : G → List ℕ) (z : G) (cs : C
       before = slotted key gs (take (slot slots j) slots)
 
       parts : (after : List ℕ) × (slotted key gs slots ≡ before ++ after)
-          × ((v : Val) → slotted key gs (set slots (slot slots j) (some v)) ≡ before ++ (slot_entry key (group_at slots j) (some v) ++ after))
+          × ((v : Val) → slotted key gs (set slots (slot slots j) (Some v)) ≡ before ++ (slot_entry key (group_at slots j) (Some v) ++ after))
       unfolding before
       parts = slotted_set key z gs slots (slot slots j) h.size (setting_slot h lt).0 (setting_slot h lt).1
 
       again : {text3 : List ℕ}
-          → ((v : Val) → Wrote text text2 at d.state.at (slot_entry key (group_at slots j) (some v))
-          → Wrote text₀ text3 s.at d.state.at (slotted key gs (set slots (slot slots j) (some v))))
+          → ((v : Val) → Wrote text text2 at d.state.at (slot_entry key (group_at slots j) (Some v))
+          → Wrote text₀ text3 s.at d.state.at (slotted key gs (set slots (slot slots j) (Some v))))
           → {k : Kind} → d.what ≡ Placed k → Turned slots j at text text2 text3 errors2 d m
       again w e =
           let r = so_placed cs (run (group_at slots j)) _ next q e in
@@ -111,16 +111,16 @@ module _ {G : Type 0} (run : G → M Val) (key : G → List ℕ) (z : G) (cs : C
             value = r.0;
             entered = r.2;
             setting = record {
-              size = length-set slots (slot slots j) (some r.0) ∙ h.size;
+              size = length-set slots (slot slots j) (Some r.0) ∙ h.size;
               free = let y = empties_set slots j r.0 (omega (arith, h.free)) in omega (arith, y, h.free);
               so = r.3;
               wrote = w r.0 r.2;
             };
           }
 
-      module _ (v : Val) (e : Wrote text text2 at d.state.at (slot_entry key (group_at slots j) (some v))) where
+      module _ (v : Val) (e : Wrote text text2 at d.state.at (slot_entry key (group_at slots j) (Some v))) where
         entry : List ℕ
-        entry = slot_entry key (group_at slots j) (some v)
+        entry = slot_entry key (group_at slots j) (Some v)
 
         behind : Wrote text₀ text2 s.at d.state.at (before ++ (parts.0 ++ entry))
         unfolding entry
@@ -147,7 +147,7 @@ module _ {G : Type 0} (run : G → M Val) (key : G → List ℕ) (z : G) (cs : C
       setting_behind last e =
           again (λ v w. same (sym (parts.2 v)) (swap_empty before parts.0 (entry v w) (behind v w) (λ k. none_behind v w k))) e
         where
-          none_behind : (v : Val) (w : Wrote text text2 at d.state.at (slot_entry key (group_at slots j) (some v))) → d.state.at ≤ length text₀
+          none_behind : (v : Val) (w : Wrote text text2 at d.state.at (slot_entry key (group_at slots j) (Some v))) → d.state.at ≤ length text₀
               → length parts.0 ≡ 0
           none_behind v w k =
               let k' : d.state.at ≤ length text2 = omega (arith, k, (behind v w).long) in

@@ -4,7 +4,7 @@
 use mathlib.Core.Path.{◌≡◌, refl, sym, ap, ◌∙◌}
 use mathlib.Core.Bool.{Bool, true, false, cond, not, ◌&&◌, ◌||◌, true≢false}
 use mathlib.Core.List.{List, [], ◌∷◌, ◌++◌, append-nil}
-use mathlib.Core.Option.{Option, none, some}
+use Rattle.std.specs.Prelude.{Option, Some, None}
 use Prim.Native.Nat.{ℕ, zero, suc, ◌+◌, ◌-◌, ◌≤◌}
 use native.Mathlib.Omega.{arith}
 use borrow.Author.Tests.{ltb-true, leb-true, ne_eqb, not-true, not-false}
@@ -63,15 +63,15 @@ tail_of b low high w h =
     in_range 0x80 0xBF b (omega arith) (omega arith)
 
 or_none : Option (List Range) → List Range
-or_none none = []
-or_none (some ranges) = ranges
+or_none None = []
+or_none (Some ranges) = ranges
 
 following_tails : (forms : List Form) (a : ℕ) → tailed forms ≡ true → tails (or_none (following forms a)) ≡ true
 unfolding or_none
 following_tails [] a e = refl
 following_tails ((first ▹ others) ∷ forms) a e = by_test (a ∈ first) (following_tails forms a (and_right (tails others) (tailed forms) e))
   where
-    by_test : (t : Bool) → tails (or_none (following forms a)) ≡ true → tails (or_none (cond t (some others) (following forms a))) ≡ true
+    by_test : (t : Bool) → tails (or_none (following forms a)) ≡ true → tails (or_none (cond t (Some others) (following forms a))) ≡ true
     by_test true later = and_left (tails others) (tailed forms) e
     by_test false later = later
 
@@ -96,14 +96,14 @@ due_tails (suc n) (b ∷ s) ((low to high) ∷ ranges) e = due_tails n s ranges 
 -- a first octet that some line has, with what follows it in a text, and in another that begins alike
 begun : (next : Option (List Range)) (s : List ℕ) → if_some next (octets_after s) ≡ true → octets_after s (or_none next) ≡ true
 unfolding or_none
-begun none s e = absurd (true≢false (sym e))
-begun (some ranges) s e = e
+begun None s e = absurd (true≢false (sym e))
+begun (Some ranges) s e = e
 
 begun_alike : (next : Option (List Range)) (s t : List ℕ) → if_some next (octets_after s) ≡ true
     → if_some next (octets_after t) ≡ octets_after t (or_none next)
 unfolding or_none
-begun_alike none s t e = absurd (true≢false (sym e))
-begun_alike (some ranges) s t e = refl
+begun_alike None s t e = absurd (true≢false (sym e))
+begun_alike (Some ranges) s t e = refl
 
 -- behind n octets comes what is due there
 due_drop : (n : ℕ) (s : List ℕ) (ranges : List Range) → octets_after s ranges ≡ true → octets_after (drop n s) (due n s ranges) ≡ true

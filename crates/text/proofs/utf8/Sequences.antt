@@ -6,7 +6,7 @@ use mathlib.Core.Path.{◌≡◌, refl, sym, ap, ◌∙◌, subst}
 use mathlib.Core.Bool.{Bool, true, false, ◌&&◌, and-false}
 use mathlib.Core.Logic.{⊎_elim}
 use mathlib.Core.List.{List, [], ◌∷◌}
-use mathlib.Core.Option.{none, some}
+use Rattle.std.specs.Prelude.{Some, None}
 use Prim.Native.Nat.{ℕ, zero, suc, ◌+◌, ◌-◌, ◌*◌, ◌%◌, ◌≤◌, ◌<◌}
 use native.Mathlib.Omega.{arith}
 use borrow.Author.Tests.{le-leb, lt-leb}
@@ -24,7 +24,7 @@ completes n (suc k) p (b ∷ t) = (b ∈ UTF8-tail) && completes n k (p * 64 + b
 -- ---- the lines of the ABNF
 
 module _ (a : ℕ) where
-  follow_none : 0x80 ≤ a → a < 0xC2 → following UTF8-char a ≡ none
+  follow_none : 0x80 ≤ a → a < 0xC2 → following UTF8-char a ≡ None
   follow_none h k =
       simp (
         above_range 0x00 0x7F a (omega arith),
@@ -38,10 +38,10 @@ module _ (a : ℕ) where
         below_range 0xF4 0xF4 a (omega arith),
       )
 
-  follow_two : 0xC2 ≤ a → a ≤ 0xDF → following UTF8-char a ≡ some (UTF8-tail ∷ [])
+  follow_two : 0xC2 ≤ a → a ≤ 0xDF → following UTF8-char a ≡ Some (UTF8-tail ∷ [])
   follow_two h k = simp (above_range 0x00 0x7F a (omega arith), in_range 0xC2 0xDF a h k)
 
-  follow_e1 : 0xE1 ≤ a → a ≤ 0xEC → following UTF8-char a ≡ some (UTF8-tail ∷ UTF8-tail ∷ [])
+  follow_e1 : 0xE1 ≤ a → a ≤ 0xEC → following UTF8-char a ≡ Some (UTF8-tail ∷ UTF8-tail ∷ [])
   follow_e1 h k =
       simp (
         above_range 0x00 0x7F a (omega arith),
@@ -50,7 +50,7 @@ module _ (a : ℕ) where
         in_range 0xE1 0xEC a h k,
       )
 
-  follow_ee : 0xEE ≤ a → a ≤ 0xEF → following UTF8-char a ≡ some (UTF8-tail ∷ UTF8-tail ∷ [])
+  follow_ee : 0xEE ≤ a → a ≤ 0xEF → following UTF8-char a ≡ Some (UTF8-tail ∷ UTF8-tail ∷ [])
   follow_ee h k =
       simp (
         above_range 0x00 0x7F a (omega arith),
@@ -61,7 +61,7 @@ module _ (a : ℕ) where
         in_range 0xEE 0xEF a h k,
       )
 
-  follow_f1 : 0xF1 ≤ a → a ≤ 0xF3 → following UTF8-char a ≡ some (UTF8-tail ∷ UTF8-tail ∷ UTF8-tail ∷ [])
+  follow_f1 : 0xF1 ≤ a → a ≤ 0xF3 → following UTF8-char a ≡ Some (UTF8-tail ∷ UTF8-tail ∷ UTF8-tail ∷ [])
   follow_f1 h k =
       simp (
         above_range 0x00 0x7F a (omega arith),
@@ -74,7 +74,7 @@ module _ (a : ℕ) where
         in_range 0xF1 0xF3 a h k,
       )
 
-  follow_beyond : 0xF5 ≤ a → following UTF8-char a ≡ none
+  follow_beyond : 0xF5 ≤ a → following UTF8-char a ≡ None
   follow_beyond h =
       simp (
         above_range 0x00 0x7F a (omega arith),
@@ -89,7 +89,7 @@ module _ (a : ℕ) where
       )
 
 -- a first octet that no line has
-pub refused : (a : ℕ) (t : List ℕ) → following UTF8-char a ≡ none → is_utf8 (a ∷ t) ≡ false
+pub refused : (a : ℕ) (t : List ℕ) → following UTF8-char a ≡ None → is_utf8 (a ∷ t) ≡ false
 unfolding is_utf8 octets_after
 refused a t e = rw (is_utf8, octets_after, e)
 
@@ -115,14 +115,14 @@ order_four true true true a u = refl
 order_four true true false a u = and-false a
 order_four true false d a u = and-false a
 
-pub two_octets : (a p : ℕ) → following UTF8-char a ≡ some (UTF8-tail ∷ []) → ((b : ℕ) → true ≡ allowed 2 (p * 64 + b % 64))
+pub two_octets : (a p : ℕ) → following UTF8-char a ≡ Some (UTF8-tail ∷ []) → ((b : ℕ) → true ≡ allowed 2 (p * 64 + b % 64))
     → (t : List ℕ) → is_utf8 (a ∷ t) ≡ completes 2 1 p t
 unfolding is_utf8 octets_after completes
 two_octets a p e f [] = rw (octets_after, e)
 two_octets a p e f (b ∷ t) = rw (octets_after, e, ← f b)
 
 module _ (a p : ℕ) (range : Range) where
-  three_octets : following UTF8-char a ≡ some (range ∷ UTF8-tail ∷ [])
+  three_octets : following UTF8-char a ≡ Some (range ∷ UTF8-tail ∷ [])
       → ((b c : ℕ) → (b ∈ UTF8-tail) ≡ true → (b ∈ range) ≡ allowed 3 ((p * 64 + b % 64) * 64 + c % 64))
       → ((b : ℕ) → (b ∈ UTF8-tail) ≡ false → (b ∈ range) ≡ false)
       → (t : List ℕ) → is_utf8 (a ∷ t) ≡ completes 3 2 p t
@@ -135,7 +135,7 @@ module _ (a p : ℕ) (range : Range) where
       (ap (λ (r : Bool). r && ((c ∈ UTF8-tail) && octets_after t [])) (as_range (b ∈ UTF8-tail) (b ∈ range) (allowed 3 n) (f b c) (g b))
       ∙ order_three (b ∈ UTF8-tail) (c ∈ UTF8-tail) (allowed 3 n) (octets_after t []))
 
-  four_octets : following UTF8-char a ≡ some (range ∷ UTF8-tail ∷ UTF8-tail ∷ [])
+  four_octets : following UTF8-char a ≡ Some (range ∷ UTF8-tail ∷ UTF8-tail ∷ [])
       → ((b c d : ℕ) → (b ∈ UTF8-tail) ≡ true → (b ∈ range) ≡ allowed 4 (((p * 64 + b % 64) * 64 + c % 64) * 64 + d % 64))
       → ((b : ℕ) → (b ∈ UTF8-tail) ≡ false → (b ∈ range) ≡ false)
       → (t : List ℕ) → is_utf8 (a ∷ t) ≡ completes 4 3 p t

@@ -2,10 +2,10 @@
 use Rattle.graphql.specs.Collect.{inline_applies}
 use Rattle.collecting.proofs.fragments.inline_applies.Goals as goal
 
-pub returns-in-Absent : goal.returns-in-Absent
+pub returns-in-None : goal.returns-in-None
 unfolding inline_applies
-returns-in-Absent c = cc
+returns-in-None c = cc
 
-pub returns-in-Row : goal.returns-in-Row
+pub returns-in-Some : goal.returns-in-Some
 unfolding inline_applies
-returns-in-Row c = cc
+returns-in-Some c = cc

@@ -10,4 +10,4 @@ lists_name-requires c = c.requires.within _
 
 pub returns : goal.returns
 returns c = object_implements _ _ c.type_at-def.ensures c.object_named.ensures
-    c.in-Row.is c.lists_name.ensures c.object_if.ensures
+    c.in-Some.is c.lists_name.ensures c.object_if.ensures

@@ -9,5 +9,5 @@ pub lists_name-requires : goal.lists_name-requires
 lists_name-requires c = c.requires.within _
 
 pub returns : goal.returns
-returns c = object_member _ _ c.object_named.ensures c.in-Row.is
+returns c = object_member _ _ c.object_named.ensures c.in-Some.is
     c.lists_name.ensures c.object_if.ensures

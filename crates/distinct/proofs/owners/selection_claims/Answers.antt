@@ -9,7 +9,7 @@ returns-in_default c = let e = sym c.owned_set-owned.ensures ∙ c.in_default.is
     record { value = rw e; marked = selection_absent _ _ _ c.requires e }
 
 pub returns-then-set-ge4096 : goal.returns-then-set-ge4096
-returns-then-set-ge4096 c = record { value = c.selection_owns_alone.ensures; marked = selection_past _ _ _ c.requires _ (sym c.owned_set-owned.ensures ∙ c.in-Row.is) c.if-set-ge4096.true }
+returns-then-set-ge4096 c = record { value = c.selection_owns_alone.ensures; marked = selection_past _ _ _ c.requires _ (sym c.owned_set-owned.ensures ∙ c.in-Some.is) c.if-set-ge4096.true }
 
 pub bounds-marks-at : goal.bounds-marks-at
 bounds-marks-at c = omega (arith, c.requires.sized)
@@ -18,5 +18,5 @@ pub bounds-marks-at-2 : goal.bounds-marks-at-2
 bounds-marks-at-2 c = omega (arith, c.requires.sized)
 
 pub returns : goal.returns
-returns c = let e = sym c.owned_set-owned.ensures ∙ c.in-Row.is in
+returns c = let e = sym c.owned_set-owned.ensures ∙ c.in-Some.is in
     record { value = selection_told _ _ _ c.requires _ e c.if-set-ge4096.false; marked = selection_marked _ _ _ c.requires _ e c.if-set-ge4096.false }

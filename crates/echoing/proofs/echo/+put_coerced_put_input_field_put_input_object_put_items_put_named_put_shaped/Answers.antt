@@ -20,8 +20,8 @@ put_coerced-returns-in-Shaped t c = search (valuing, rules)
 pub put_input_field-put_coerced-requires : goal.put_input_field-put_coerced-requires
 put_input_field-put_coerced-requires t c = (search (rules, c.decreases), (c.requires.coercible, c.requires.parted))
 
-pub put_input_field-returns-in-Row : goal.put_input_field-returns-in-Row
-put_input_field-returns-in-Row t c = search (fielding, rules)
+pub put_input_field-returns-in-Some : goal.put_input_field-returns-in-Some
+put_input_field-returns-in-Some t c = search (fielding, rules)
 
 pub put_input_field-returns-in_default-default : goal.put_input_field-returns-in_default-default
 put_input_field-returns-in_default-default t c = search (fielding, rules)

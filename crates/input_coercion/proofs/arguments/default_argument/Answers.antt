@@ -5,8 +5,8 @@ use Rattle.input_coercion.proofs.arguments.default_argument.Goals as goal
 pub returns-then-is_non_null : goal.returns-then-is_non_null
 returns-then-is_non_null c = search defaults
 
-pub returns-in-Row : goal.returns-in-Row
-returns-in-Row c = search defaults
+pub returns-in-Some : goal.returns-in-Some
+returns-in-Some c = search defaults
 
 pub returns-else-is_non_null : goal.returns-else-is_non_null
 returns-else-is_non_null c = search defaults

@@ -54,14 +54,14 @@ coerce_shape-returns-in-ListOf t c = search shaping
 pub coerce_shape-returns-in-Unknown : goal.coerce_shape-returns-in-Unknown
 coerce_shape-returns-in-Unknown t c = search shaping
 
-pub input_field-returns-in-Row : goal.input_field-returns-in-Row
-input_field-returns-in-Row t c = search fielding
+pub input_field-returns-in-Some : goal.input_field-returns-in-Some
+input_field-returns-in-Some t c = search fielding
 
 pub input_field-returns-then-is_non_null : goal.input_field-returns-then-is_non_null
 input_field-returns-then-is_non_null t c = search fielding
 
-pub input_field-returns-in-Row-default : goal.input_field-returns-in-Row-default
-input_field-returns-in-Row-default t c = search fielding
+pub input_field-returns-in-Some-default : goal.input_field-returns-in-Some-default
+input_field-returns-in-Some-default t c = search fielding
 
 pub input_field-returns-else-is_non_null : goal.input_field-returns-else-is_non_null
 input_field-returns-else-is_non_null t c = search fielding

@@ -2,8 +2,8 @@
 use Rattle.lookup.proofs.Searching.{none_passes, one_passes}
 use Rattle.lookup.proofs.find.has_word.Goals as goal
 
-pub returns-in-Absent : goal.returns-in-Absent
-returns-in-Absent c = none_passes _ _ (rw c.in-Absent.is at c.find_word.ensures)
+pub returns-in-None : goal.returns-in-None
+returns-in-None c = none_passes _ _ (rw c.in-None.is at c.find_word.ensures)
 
-pub returns-in-Row : goal.returns-in-Row
-returns-in-Row c = one_passes _ _ (rw c.in-Row.is at c.find_word.ensures)
+pub returns-in-Some : goal.returns-in-Some
+returns-in-Some c = one_passes _ _ (rw c.in-Some.is at c.find_word.ensures)

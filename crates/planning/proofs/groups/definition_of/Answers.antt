@@ -12,8 +12,8 @@ overflow_cast-result c = search (defining, rules)
 pub overflow_add-result : goal.overflow_add-result
 overflow_add-result c = search (defining, rules)
 
-pub returns-in-Absent : goal.returns-in-Absent
-returns-in-Absent c = search (defining, rules)
+pub returns-in-None : goal.returns-in-None
+returns-in-None c = search (defining, rules)
 
-pub returns-in-Row : goal.returns-in-Row
-returns-in-Row c = search (defining, rules)
+pub returns-in-Some : goal.returns-in-Some
+returns-in-Some c = search (defining, rules)

@@ -8,8 +8,8 @@ ruleset resolving = (field_unanswered, field_resolved, rules)
 pub resolve_row-requires : goal.resolve_row-requires
 resolve_row-requires c = record { askable = c.requires.askable.0; leads = c.requires.askable.1 _ }
 
-pub returns-in-Absent : goal.returns-in-Absent
-returns-in-Absent c = search resolving
+pub returns-in-None : goal.returns-in-None
+returns-in-None c = search resolving
 
-pub returns-in-Row : goal.returns-in-Row
-returns-in-Row c = search resolving
+pub returns-in-Some : goal.returns-in-Some
+returns-in-Some c = search resolving
