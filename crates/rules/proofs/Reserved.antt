@@ -5,11 +5,12 @@ use mathlib.Core.List.{List, [], ◌∷◌}
 use Rattle.std.specs.Prelude.{None}
 use Prim.Native.Nat.{ℕ, zero, suc, ◌≤◌}
 use native.Mathlib.Nat.{not-suc-le-zero, le_of_suc-le-suc}
-use lib.ListN.{length, get_elem?}
+use lib.ListN.{length}
+use Rattle.std.specs.Prelude.{slice_get}
 use Rattle.rows.specs.Names.{reserved}
 use Rattle.rules.specs.Names.{reserved_as}
 
-past_end : {A : Type 0} (l : List A) (i : ℕ) → length l ≤ i → get_elem? l i ≡ None
+past_end : {A : Type 0} (l : List A) (i : ℕ) → length l ≤ i → slice_get l i ≡ None
 past_end [] i h = refl
 past_end (x ∷ l) zero h = absurd (not-suc-le-zero h)
 past_end (x ∷ l) (suc i) h = past_end l i (le_of_suc-le-suc h)

@@ -3,7 +3,7 @@
 use Rattle.std.specs.Prelude.{List, Bool, true, not, ◌&&◌, ℕ, leb}
 use Rattle.std.specs.Prelude.{Option, Some, None}
 use Prim.Native.String.{String}
-use Rattle.std.proofs.Math.ListN.{get_elem?}
+use Rattle.std.specs.Prelude.{slice_get}
 use Rattle.text.specs.Names.{is_name}
 use Rattle.rows.specs.Ascii.{ascii}
 use Rattle.rows.specs.Limits.{least_name_bytes, most_name_bytes}
@@ -24,7 +24,7 @@ spelled_as None name = true
 spelled_as (Some s) name = same name (ascii s)
 
 abbrev pub reserved_as : ℕ → List ℕ → Bool
-reserved_as row name = spelled_as (get_elem? reserved row) name
+reserved_as row name = spelled_as (slice_get reserved row) name
 
 abbrev pub name_reserved : List ℕ → List ℕ → ℕ → Bool
 name_reserved pool names row = reserved_as row (name_text pool names row)
