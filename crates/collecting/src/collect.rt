@@ -223,8 +223,7 @@ pub fn collect_fields(
     let count = rows.count;
     let mut visited = gathered.visited;
     let mut fields = gathered.count;
-    let mut i: u32 = 0;
-    while i < count {
+    for i in 0..count {
         let so_far = Gathered {
             visited: visited,
             count: fields,
@@ -248,7 +247,6 @@ pub fn collect_fields(
         };
         visited = next.visited;
         fields = next.count;
-        i += 1;
     }
     Collecting::On(Gathered {
         visited: visited,

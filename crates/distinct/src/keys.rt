@@ -54,10 +54,8 @@ fn end_of_children(nodes: &[u32], rows: u32) -> u32
     ensures { (result ≤ 4096) × (result ≡ 0 → all (is_plain nodes.now) rows ≡ true) }
 {
     let mut end: u32 = 0;
-    let mut row: u32 = 0;
-    while row < rows {
+    for row in 0..rows {
         end = later_end(end, object_rows_at(nodes, row));
-        row += 1;
     }
     end
 }
@@ -82,12 +80,10 @@ fn all_keys_differ_since(pool: &[u8], nodes: &[u32], since: &[u16], known: usize
     ensures { result ≡ all (node_keys_differ pool.now nodes.now) (rows_of nodes.now node_width) }
 {
     let rows = row_count(nodes, NODE_WIDTH);
-    let mut row: u32 = 0;
-    while row < rows {
+    for row in 0..rows {
         if !keys_differ_since(pool, nodes, since, known, row) {
             return false;
         }
-        row += 1;
     }
     true
 }

@@ -52,12 +52,10 @@ fn selections_claim(selections: &[u32], marks: &mut [u8]) -> bool
     ensures marked { result ≡ true → Marked (free_of_selections selections.now (rows_of selections.now selection_width)) marks.new }
 {
     let rows = row_count(selections, SELECTION_WIDTH);
-    let mut row: u32 = 0;
-    while row < rows {
+    for row in 0..rows {
         if !selection_claims(selections, row, marks) {
             return false;
         }
-        row += 1;
     }
     true
 }
@@ -67,12 +65,10 @@ fn fragments_claim(selections: &[u32], fragments: &[u32], marks: &mut [u8]) -> b
     ensures { result ≡ all (fragment_owns_alone selections.now fragments.now) (rows_of fragments.now fragment_width) }
 {
     let rows = row_count(fragments, FRAGMENT_WIDTH);
-    let mut row: u32 = 0;
-    while row < rows {
+    for row in 0..rows {
         if !fragment_claims(selections, fragments, row, marks) {
             return false;
         }
-        row += 1;
     }
     true
 }

@@ -145,9 +145,7 @@ pub(crate) fn note_texts(
     requires kept { Kept pool.now t.now width column 0 heads.old next.old hashes.old since.old }
     ensures { Kept pool.now t.now width column count heads.new next.new hashes.new since.new }
 {
-    let mut row: usize = 0;
-    while row < count {
+    for row in 0..count {
         note_text(pool, t, width, column, heads, next, hashes, since, row);
-        row += 1;
     }
 }

@@ -167,8 +167,7 @@ fn put_items(
     let first = rows.first;
     let count = rows.count;
     let mut next = at;
-    let mut i: u32 = 0;
-    while i < count {
+    for i in 0..count {
         let value = put(text, next, b',');
         let written = put_coerced(
             pool,
@@ -189,7 +188,6 @@ fn put_items(
             return Put::TooFar;
         };
         next = end;
-        i += 1;
     }
     Put::At(close(text, at, next, b'[', b']'))
 }
@@ -282,8 +280,7 @@ fn put_input_object(
     let first = declared.first;
     let count = declared.count;
     let mut next = at;
-    let mut i: u32 = 0;
-    while i < count {
+    for i in 0..count {
         let written = put_input_field(
             pool,
             names,
@@ -303,7 +300,6 @@ fn put_input_object(
             return Put::TooFar;
         };
         next = end;
-        i += 1;
     }
     Put::At(close(text, at, next, b'{', b'}'))
 }

@@ -56,8 +56,7 @@ fn complete_items(
     let count = rows.count;
     let start = s.at;
     let mut state = s;
-    let mut i: u32 = 0;
-    while i < count {
+    for i in 0..count {
         let step = complete_item(
             pool,
             names,
@@ -93,7 +92,6 @@ fn complete_items(
                 state: moved(state, start),
             };
         };
-        i += 1;
     }
     let end = close(text, start, state.at, b'[', b']');
     placed(state, end, Kind::List)
@@ -465,8 +463,7 @@ pub fn execute_selection_set(
     let start = s.at;
     let mut state = s;
     let mut low: usize = 0;
-    let mut taken: usize = 0;
-    while taken < groups {
+    for taken in 0..groups {
         let group = next_group(spans, choices, base, groups, low, taken, state.choice);
         let next = State {
             at: state.at,
@@ -490,7 +487,6 @@ pub fn execute_selection_set(
         low = put_in_place(
             text, spans, base, group, low, taken, start, next.at, state.at,
         );
-        taken += 1;
     }
     let end = close(text, start, state.at, b'{', b'}');
     placed(state, end, Kind::Object)

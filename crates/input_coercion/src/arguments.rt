@@ -139,8 +139,7 @@ pub fn coerce_argument_values(
 {
     let first = definitions.first;
     let count = definitions.count;
-    let mut i: u32 = 0;
-    while i < count {
+    for i in 0..count {
         let argument = coerce_argument(
             type_refs,
             types,
@@ -156,7 +155,6 @@ pub fn coerce_argument_values(
         let Coercion::Value = argument else {
             return argument;
         };
-        i += 1;
     }
     Coercion::Value
 }

@@ -68,13 +68,11 @@ fn check_parts(literals: &[u32], room: u32, rows: Range) -> Coercion
     }
     let first = rows.first;
     let count = rows.count;
-    let mut i: u32 = 0;
-    while i < count {
+    for i in 0..count {
         let part = check_part_by_part(literals, room - 1, first + i);
         let Coercion::Value = part else {
             return part;
         };
-        i += 1;
     }
     Coercion::Value
 }
@@ -185,8 +183,7 @@ fn coerce_items(
     }
     let first = rows.first;
     let count = rows.count;
-    let mut i: u32 = 0;
-    while i < count {
+    for i in 0..count {
         let item = coerce_argument_value(
             type_refs,
             types,
@@ -201,7 +198,6 @@ fn coerce_items(
         let Coercion::Value = item else {
             return item;
         };
-        i += 1;
     }
     Coercion::Value
 }
@@ -276,8 +272,7 @@ fn input_fields(
     }
     let first = declared.first;
     let count = declared.count;
-    let mut i: u32 = 0;
-    while i < count {
+    for i in 0..count {
         let field = input_field(
             type_refs,
             types,
@@ -293,7 +288,6 @@ fn input_fields(
         let Coercion::Value = field else {
             return field;
         };
-        i += 1;
     }
     Coercion::Value
 }
@@ -306,13 +300,11 @@ fn has_unknown_key(types: &[u32], fields: &[u32], literals: &[u32], ty: u32, giv
 {
     let first = given.first;
     let count = given.count;
-    let mut i: u32 = 0;
-    while i < count {
+    for i in 0..count {
         let key = literal_key(literals, first + i);
         let Some(_) = field_named(types, fields, ty, key) else {
             return true;
         };
-        i += 1;
     }
     false
 }

@@ -82,8 +82,7 @@ fn check_selection_set(
     let first = range.first;
     let count = range.count;
     let mut max_depth = depth_so_far;
-    let mut i: u32 = 0;
-    while i < count {
+    for i in 0..count {
         let checked = check_selection(
             sets,
             selections,
@@ -97,7 +96,6 @@ fn check_selection_set(
             return checked;
         };
         max_depth = larger(max_depth, depth);
-        i += 1;
     }
     Checked::Depth(max_depth)
 }

@@ -84,10 +84,8 @@ fn files_at(env: &impl Env, number: usize) -> usize
 // How many of the arguments are files.
 pub(crate) fn file_count(env: &impl Env, count: usize) -> usize {
     let mut files: usize = 0;
-    let mut number: usize = 1;
-    while number < count {
+    for number in 1..count {
         files += files_at(env, number);
-        number += 1;
     }
     files
 }

@@ -125,8 +125,7 @@ pub(crate) fn print_broken_rules(
 ) {
     let count = rule_count();
     let mut is_any_broken = false;
-    let mut number: u32 = 0;
-    while number < count {
+    for number in 0..count {
         if is_printed(
             out,
             rule_at(number),
@@ -138,7 +137,6 @@ pub(crate) fn print_broken_rules(
         ) {
             is_any_broken = true;
         }
-        number += 1;
     }
     if !is_any_broken {
         say::words(out, b"  literals: a default contains a variable\n");

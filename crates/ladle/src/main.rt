@@ -80,8 +80,7 @@ fn answer_arguments(
 ) {
     let mut given: usize = 0;
     let mut question = Question::Check;
-    let mut number: usize = 1;
-    while number < count {
+    for number in 1..count {
         let word = word_at(rt, number);
         question = next_question(word, question);
         let order = next_order(rt, word, number, given, choices);
@@ -102,7 +101,6 @@ fn answer_arguments(
                 first_words(choices, given),
             );
         }
-        number += 1;
     }
 }
 

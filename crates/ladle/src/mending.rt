@@ -102,12 +102,10 @@ pub(crate) fn print_wrong_words(
     requires { table < 16 }
 {
     let width = row_width(table);
-    let mut column = 0;
-    while column < width {
+    for column in 0..width {
         if is_wrong(rule, table, row, column, pool, words, sizes) {
             let place = place_of(table, row, column);
             print_word(out, column, words[place]);
         }
-        column += 1;
     }
 }

@@ -14,13 +14,11 @@ pub fn find_word(t: &[u32], width: usize, column: usize, rows: Range, word: u32)
 {
     let first = rows.first;
     let count = rows.count;
-    let mut i: u32 = 0;
-    while i < count {
+    for i in 0..count {
         let row = first + i;
         if cell(t, width, row as usize, column) == word {
             return Some(row);
         }
-        i += 1;
     }
     None
 }

@@ -78,13 +78,11 @@ fn is_member(pool: &[u8], names: &[u32], members: &[u32], rows: Range, string: &
 {
     let first = rows.first;
     let count = rows.count;
-    let mut i: u32 = 0;
-    while i < count {
+    for i in 0..count {
         let name = member_at(members, first + i);
         if is_same(name_text(pool, names, name), string) {
             return true;
         }
-        i += 1;
     }
     false
 }

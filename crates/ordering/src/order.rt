@@ -9,10 +9,8 @@ pub fn clear_spans(spans: &mut [u64], base: usize, groups: usize)
     requires { base + groups ≤ length spans.old }
     ensures { Clears spans.old base groups spans.new }
 {
-    let mut i: usize = 0;
-    while i < groups {
+    for i in 0..groups {
         spans[base + i] = 0;
-        i += 1;
     }
 }
 
@@ -99,10 +97,8 @@ fn entry_start(spans: &[u64], base: usize, group: usize, start: usize, at: usize
         return at;
     }
     let mut sum = start;
-    let mut i: usize = 0;
-    while i < group {
+    for i in 0..group {
         sum = past_entry(sum, spans[base + i], at);
-        i += 1;
     }
     sum
 }

@@ -92,8 +92,7 @@ fn collect_children(
 {
     let mut visited: u64 = 0;
     let mut count: usize = 0;
-    let mut i: usize = 0;
-    while i < fields {
+    for i in 0..fields {
         let so_far = Gathered {
             visited: visited,
             count: count,
@@ -118,7 +117,6 @@ fn collect_children(
         };
         visited = next.visited;
         count = next.count;
-        i += 1;
     }
     Collecting::On(Gathered {
         visited: visited,

@@ -37,12 +37,10 @@ fn group_with(plans: &[u16], first: usize, groups: usize, key: u32) -> usize
     requires { (8 * (first + groups) ≤ length plans.now) × (length plans.now ≤ most_words) }
     ensures { Which plans.now first groups key result }
 {
-    let mut i: usize = 0;
-    while i < groups {
+    for i in 0..groups {
         if (word(plans, first + i, GROUP_KEY) as u32) == key {
             return i;
         }
-        i += 1;
     }
     groups
 }
@@ -142,12 +140,10 @@ pub fn put_groups(
     ensures { Grouping type_refs.now types.now fields.now selections.now list.now object first plans.old plans.new owners.new result count }
 {
     let mut groups: usize = 0;
-    let mut i: usize = 0;
-    while i < count {
+    for i in 0..count {
         groups = put_field(
             type_refs, types, fields, selections, plans, list, owners, first, groups, i, object,
         );
-        i += 1;
     }
     groups
 }
@@ -157,10 +153,8 @@ pub fn put_fields(plans: &mut [u16], list: &[u16], owners: &[u16], first: usize,
     requires { (8 * (first + count) ≤ length plans.old) × (length plans.old ≤ most_words) × (count ≤ length list.now) × (count ≤ length owners.now) }
     ensures { PutFields list.now owners.now first count plans.old plans.new }
 {
-    let mut i: usize = 0;
-    while i < count {
+    for i in 0..count {
         plans[WIDTH * (first + i) + FIELD_SELECTION] = list[i];
         plans[WIDTH * (first + i) + FIELD_GROUP] = owners[i];
-        i += 1;
     }
 }

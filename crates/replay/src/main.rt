@@ -116,9 +116,7 @@ fn replay_argument(rt: &(impl Print + Env + Files), number: usize) {
 
 fn main(rt: HostRuntime) {
     let count = argument_count(&rt);
-    let mut number: usize = 1;
-    while number < count {
+    for number in 1..count {
         replay_argument(&rt, number);
-        number += 1;
     }
 }

@@ -34,13 +34,11 @@ fn digit(b: u8) -> u32
 // The number that these digits spell, of those that have up to nine.
 fn spelled(digits: &[u8]) -> u32 {
     let mut value: u32 = 0;
-    let mut at = 0;
-    while at < digits.len() {
+    for at in 0..digits.len() {
         if value >= 100000000 {
             return value;
         }
         value = value * 10 + digit(digits[at]);
-        at += 1;
     }
     value
 }

@@ -18,12 +18,10 @@ fn are_same_words(a: &[u32], b: &[u32]) -> bool {
     if a.len() != b.len() {
         return false;
     }
-    let mut at = 0;
-    while at < a.len() {
+    for at in 0..a.len() {
         if a[at] != b[at] {
             return false;
         }
-        at += 1;
     }
     true
 }

@@ -33,10 +33,8 @@ fn is_same_block(a: &[u8], b: &[u8]) -> bool
     ensures { result ≡ same a.now b.now }
 {
     let mut agree = true;
-    let mut i: usize = 0;
-    while i < a.len() {
+    for i in 0..a.len() {
         agree = agree & (a[i] == b[i]);
-        i += 1;
     }
     agree
 }

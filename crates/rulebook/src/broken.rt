@@ -66,15 +66,13 @@ pub fn first_broken(
         rule, pool, names, type_refs, types, members, fields, arguments, sets, selections, given,
         fragments, nodes, literals, variables, answers, root,
     );
-    let mut row: u32 = 0;
-    while row < rows {
+    for row in 0..rows {
         if !rule_holds_at(
             rule, pool, names, type_refs, types, members, fields, arguments, sets, selections,
             given, fragments, nodes, literals, variables, answers, root, row,
         ) {
             return Broken::At(row);
         }
-        row += 1;
     }
     Broken::Nowhere
 }

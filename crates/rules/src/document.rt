@@ -190,12 +190,10 @@ fn children_are_larger(selections: &[u32], set: u32, rows: Range) -> bool
 {
     let first = rows.first as usize;
     let count = rows.count;
-    let mut i: u32 = 0;
-    while i < count {
+    for i in 0..count {
         if !child_is_larger(selections, set, first + (i as usize)) {
             return false;
         }
-        i += 1;
     }
     true
 }
@@ -225,12 +223,10 @@ fn owns_other(selections: &[u32], set: u32, row: u32) -> bool
 fn is_owned_nowhere(selections: &[u32], set: u32, n: u32) -> bool
     ensures { result ≡ owned_nowhere selections.now set n }
 {
-    let mut j: u32 = 0;
-    while j < n {
+    for j in 0..n {
         if !owns_other(selections, set, j) {
             return false;
         }
-        j += 1;
     }
     true
 }

@@ -32,12 +32,10 @@ fn is_new_key(pool: &[u8], nodes: &[u32], first: u32, i: u32) -> bool
 {
     let from = first as usize;
     let row = from + (i as usize);
-    let mut j: u32 = 0;
-    while j < i {
+    for j in 0..i {
         if !is_other_key(pool, nodes, row, from + (j as usize)) {
             return false;
         }
-        j += 1;
     }
     true
 }
@@ -47,12 +45,10 @@ fn keys_are_distinct(pool: &[u8], nodes: &[u32], rows: Range) -> bool
 {
     let first = rows.first;
     let count = rows.count;
-    let mut i: u32 = 0;
-    while i < count {
+    for i in 0..count {
         if !is_new_key(pool, nodes, first, i) {
             return false;
         }
-        i += 1;
     }
     true
 }

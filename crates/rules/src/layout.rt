@@ -43,12 +43,10 @@ pub(crate) fn is_new(t: &[u32], width: usize, column: usize, first: u32, i: u32)
 {
     let from = first as usize;
     let row = from + (i as usize);
-    let mut j: u32 = 0;
-    while j < i {
+    for j in 0..i {
         if !is_other(t, width, column, row, from + (j as usize)) {
             return false;
         }
-        j += 1;
     }
     true
 }
@@ -86,12 +84,10 @@ pub fn is_distinct(t: &[u32], width: usize, column: usize, rows: Range) -> bool
     let first = rows.first;
     let count = rows.count;
     let mut marks = [0u8; 512];
-    let mut i: u32 = 0;
-    while i < count {
+    for i in 0..count {
         if !is_new_by_marks(t, width, column, first, i, &mut marks) {
             return false;
         }
-        i += 1;
     }
     true
 }

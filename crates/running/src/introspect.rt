@@ -29,12 +29,10 @@ pub fn introspects(selections: &[u32]) -> bool
     ensures { result ≡ Report·introspects selections.now }
 {
     let count = row_count(selections, SELECTION_WIDTH);
-    let mut row: u32 = 0;
-    while row < count {
+    for row in 0..count {
         if asks_schema(what_is_selected(selections, row)) {
             return true;
         }
-        row += 1;
     }
     false
 }

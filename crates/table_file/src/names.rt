@@ -18,12 +18,10 @@ pub(crate) fn find_name(name: &[u8], pool: &[u8], names: &[u32]) -> u32
     ensures { result ≤ rows_of names.now name_width }
 {
     let rows = row_count(names, NAME_WIDTH);
-    let mut row: u32 = 0;
-    while row < rows {
+    for row in 0..rows {
         if is_name_of_row(name, pool, names, row) {
             return row;
         }
-        row += 1;
     }
     rows
 }

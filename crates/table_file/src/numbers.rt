@@ -33,8 +33,7 @@ pub(crate) fn decimal(token: &[u8]) -> Number {
         };
     }
     let mut value: u64 = 0;
-    let mut at = 0;
-    while at < token.len() {
+    for at in 0..token.len() {
         let d = digit(token[at]);
         if d > 9 {
             return Number {
@@ -56,7 +55,6 @@ pub(crate) fn decimal(token: &[u8]) -> Number {
             };
         }
         value = tens + d;
-        at += 1;
     }
     Number {
         value: value,

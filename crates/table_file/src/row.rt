@@ -141,10 +141,8 @@ fn repeat_words(
         return Fault::TableFull;
     }
     let first = number * layout::REGION + start;
-    let mut k = count;
-    while k < total {
+    for k in count..total {
         words[first + k] = words[first + k - count];
-        k += 1;
     }
     sizes[number] = start + total;
     Fault::Fine
@@ -165,10 +163,8 @@ fn repeat_bytes(
     if total > layout::POOL_BYTES - start {
         return Fault::PoolFull;
     }
-    let mut k = count;
-    while k < total {
+    for k in count..total {
         pool[start + k] = pool[start + k - count];
-        k += 1;
     }
     fill_pool(sizes, start + total);
     Fault::Fine

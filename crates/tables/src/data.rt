@@ -75,8 +75,7 @@ fn look_at_nodes(pool: &[u8], whole: bool, nodes: &[u32]) -> Seen
 {
     let count = row_count(nodes, NODE_WIDTH);
     let mut plain = true;
-    let mut row: u32 = 0;
-    while row < count {
+    for row in 0..count {
         if !node_holds(pool, whole, count, nodes, row) {
             return Seen {
                 lawful: false,
@@ -84,7 +83,6 @@ fn look_at_nodes(pool: &[u8], whole: bool, nodes: &[u32]) -> Seen
             };
         }
         plain = plain & node_is_plain(nodes, row);
-        row += 1;
     }
     Seen {
         lawful: true,
@@ -165,12 +163,10 @@ fn each_literal_holds(
     ensures { result ≡ all (literal_holds pool.now names (rows_of literals.now literal_width) literals.now) (rows_of literals.now literal_width) }
 {
     let count = row_count(literals, LITERAL_WIDTH);
-    let mut row: u32 = 0;
-    while row < count {
+    for row in 0..count {
         if !literal_holds(pool, whole, names, count, literals, since, known, row) {
             return false;
         }
-        row += 1;
     }
     true
 }
@@ -188,12 +184,10 @@ fn each_variable_holds(names: u32, nodes: u32, variables: &[u32]) -> bool
     ensures { result ≡ all (variable_row names nodes variables.now) (rows_of variables.now variable_width) }
 {
     let count = row_count(variables, VARIABLE_WIDTH);
-    let mut row: u32 = 0;
-    while row < count {
+    for row in 0..count {
         if !variable_row(names, nodes, variables, row) {
             return false;
         }
-        row += 1;
     }
     true
 }
@@ -231,8 +225,7 @@ fn look_at_answers(names: u32, nodes: u32, answers: &[u32]) -> Seen
 {
     let count = row_count(answers, ANSWER_WIDTH);
     let mut plain = true;
-    let mut row: u32 = 0;
-    while row < count {
+    for row in 0..count {
         if !answer_holds(names, nodes, count, answers, row) {
             return Seen {
                 lawful: false,
@@ -240,7 +233,6 @@ fn look_at_answers(names: u32, nodes: u32, answers: &[u32]) -> Seen
             };
         }
         plain = plain & answer_is_plain(answers, row);
-        row += 1;
     }
     Seen {
         lawful: true,
@@ -268,12 +260,10 @@ fn each_answer_differs(answers: &[u32], since: &[u16], known: usize) -> bool
     ensures { result ≡ all (answer_names_differ answers.now) (rows_of answers.now answer_width) }
 {
     let count = row_count(answers, ANSWER_WIDTH);
-    let mut row: u32 = 0;
-    while row < count {
+    for row in 0..count {
         if !answer_names_differ_since(answers, since, known, row) {
             return false;
         }
-        row += 1;
     }
     true
 }

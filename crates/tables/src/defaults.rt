@@ -100,12 +100,10 @@ fn defaults_are_unmarked(t: &[u32], width: usize, column: usize, runs: &[u16]) -
     ensures { result ≡ all (row_unmarked t.now width column runs.now) (rows_of t.now width) }
 {
     let rows = row_count(t, width);
-    let mut row: u32 = 0;
-    while row < rows {
+    for row in 0..rows {
         if !default_is_unmarked(runs, word(t, width, row, column)) {
             return false;
         }
-        row += 1;
     }
     true
 }

@@ -34,12 +34,10 @@ fn each_given_holds(names: u32, literals: u32, given: &[u32]) -> bool
     ensures { result ≡ all (given_row names literals given.now) (rows_of given.now given_width) }
 {
     let count = row_count(given, GIVEN_WIDTH);
-    let mut row: u32 = 0;
-    while row < count {
+    for row in 0..count {
         if !given_holds(names, literals, given, row) {
             return false;
         }
-        row += 1;
     }
     true
 }
@@ -115,8 +113,7 @@ fn each_selection_holds(
 {
     let given_count = row_count(given, GIVEN_WIDTH);
     let count = row_count(selections, SELECTION_WIDTH);
-    let mut row: u32 = 0;
-    while row < count {
+    for row in 0..count {
         if !selection_holds(
             names,
             type_refs,
@@ -130,7 +127,6 @@ fn each_selection_holds(
         ) {
             return false;
         }
-        row += 1;
     }
     true
 }
@@ -148,12 +144,10 @@ fn each_fragment_holds(names: u32, sets: u32, fragments: &[u32]) -> bool
     ensures { result ≡ all (fragment_row names sets fragments.now) (rows_of fragments.now fragment_width) }
 {
     let count = row_count(fragments, FRAGMENT_WIDTH);
-    let mut row: u32 = 0;
-    while row < count {
+    for row in 0..count {
         if !fragment_row(names, sets, fragments, row) {
             return false;
         }
-        row += 1;
     }
     true
 }

@@ -36,12 +36,10 @@ fn each_name_holds(pool: &[u8], names: &[u32]) -> bool
     ensures { result ≡ all (name_holds pool.now names.now) (rows_of names.now name_width) }
 {
     let count = row_count(names, NAME_WIDTH);
-    let mut row: u32 = 0;
-    while row < count {
+    for row in 0..count {
         if !name_holds(pool, names, row) {
             return false;
         }
-        row += 1;
     }
     true
 }
@@ -60,12 +58,10 @@ fn each_type_ref_holds(names: u32, type_refs: &[u32]) -> bool
     ensures { result ≡ all (type_ref_row names type_refs.now) (rows_of type_refs.now type_ref_width) }
 {
     let count = row_count(type_refs, TYPE_REF_WIDTH);
-    let mut row: u32 = 0;
-    while row < count {
+    for row in 0..count {
         if !type_ref_holds(names, type_refs, row) {
             return false;
         }
-        row += 1;
     }
     true
 }
@@ -81,12 +77,10 @@ fn each_member_holds(names: u32, members: &[u32]) -> bool
     ensures { result ≡ all (member_row names members.now) (rows_of members.now member_width) }
 {
     let count = row_count(members, MEMBER_WIDTH);
-    let mut row: u32 = 0;
-    while row < count {
+    for row in 0..count {
         if !member_holds(names, members, row) {
             return false;
         }
-        row += 1;
     }
     true
 }
@@ -105,12 +99,10 @@ fn each_argument_holds(names: u32, type_refs: u32, literals: u32, arguments: &[u
     ensures { result ≡ all (argument_row names type_refs literals arguments.now) (rows_of arguments.now argument_width) }
 {
     let count = row_count(arguments, ARGUMENT_WIDTH);
-    let mut row: u32 = 0;
-    while row < count {
+    for row in 0..count {
         if !argument_holds(names, type_refs, literals, arguments, row) {
             return false;
         }
-        row += 1;
     }
     true
 }
@@ -175,8 +167,7 @@ fn each_field_holds(
 {
     let argument_count = row_count(arguments, ARGUMENT_WIDTH);
     let count = row_count(fields, FIELD_WIDTH);
-    let mut row: u32 = 0;
-    while row < count {
+    for row in 0..count {
         if !field_holds(
             names,
             type_refs,
@@ -190,7 +181,6 @@ fn each_field_holds(
         ) {
             return false;
         }
-        row += 1;
     }
     true
 }
@@ -240,8 +230,7 @@ fn each_type_holds(
 {
     let field_count = row_count(fields, FIELD_WIDTH);
     let count = row_count(types, TYPE_WIDTH);
-    let mut row: u32 = 0;
-    while row < count {
+    for row in 0..count {
         if !type_holds(
             names,
             members,
@@ -254,7 +243,6 @@ fn each_type_holds(
         ) {
             return false;
         }
-        row += 1;
     }
     true
 }

@@ -50,13 +50,11 @@ fn print_errors(out: &impl Print, pool: &[u8], names: &[u32], errors: &[u32]) {
 
 // Words with blanks between them.
 fn print_words(out: &impl Print, words: &[u32]) {
-    let mut i = 0;
-    while i < words.len() {
+    for i in 0..words.len() {
         if i > 0 {
             say::words(out, b" ");
         }
         say::number(out, word_at(words, i) as u64);
-        i += 1;
     }
 }
 

@@ -9,10 +9,8 @@ pub fn is_ascii(s: &[u8]) -> bool
     ensures { result ≡ is_ascii s.now }
 {
     let mut gathered: u8 = 0;
-    let mut i = 0;
-    while i < s.len() {
+    for i in 0..s.len() {
         gathered = gathered | s[i];
-        i += 1;
     }
     gathered < 0x80
 }

@@ -39,12 +39,10 @@ pub fn is_name(s: &[u8]) -> bool
     if !is_name_start(s[0]) {
         return false;
     }
-    let mut i = 1;
-    while i < s.len() {
+    for i in 1..s.len() {
         if !is_name_continue(s[i]) {
             return false;
         }
-        i += 1;
     }
     true
 }

@@ -97,14 +97,12 @@ fn decode_sequence(s: &[u8], at: usize, size: usize) -> Decoded
     }
     let end = at + size;
     let mut point = lead_bits(s[at], size);
-    let mut i = at + 1;
-    while i < end {
+    for i in at + 1..end {
         let byte = s[i];
         if !is_tail(byte) {
             return Decoded::Bad;
         }
         point = with_tail(point, byte);
-        i += 1;
     }
     if is_allowed(point, size) {
         return Decoded::Char { point, next: end };

@@ -183,10 +183,8 @@ fn put_each_escaped(text: &mut [u8], at: usize, s: &[u8]) -> usize
     ensures { Writes text.old text.new at result (escaped_all s.now) }
 {
     let mut next = at;
-    let mut i = 0;
-    while i < s.len() {
+    for i in 0..s.len() {
         next = put_escaped(text, next, s[i]);
-        i += 1;
     }
     next
 }
@@ -197,10 +195,8 @@ fn block_at(s: &[u8], from: usize) -> [u8; 16]
     ensures { result ≡ take 16 (drop from s.now) }
 {
     let mut block = [0u8; 16];
-    let mut i = 0;
-    while i < 16 {
+    for i in 0..16 {
         block[i] = s[from + i];
-        i += 1;
     }
     block
 }
@@ -210,10 +206,8 @@ fn are_plain(s: &[u8]) -> bool
     ensures { result ≡ all_plain s.now }
 {
     let mut plain = true;
-    let mut i = 0;
-    while i < s.len() {
+    for i in 0..s.len() {
         plain = plain & is_plain(s[i]);
-        i += 1;
     }
     plain
 }

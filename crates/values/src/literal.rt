@@ -91,8 +91,7 @@ fn put_parts(
     let first = rows.first;
     let count = rows.count;
     let mut next = at;
-    let mut i: u32 = 0;
-    while i < count {
+    for i in 0..count {
         let row = first + i;
         let value = put_literal_label(pool, names, literals, text, next, keyed, row);
         let written = put_literal(pool, names, literals, text, value, room - 1, row);
@@ -100,7 +99,6 @@ fn put_parts(
             return written;
         };
         next = end;
-        i += 1;
     }
     PutLiteral::At(put_brackets(text, at, next, keyed))
 }

@@ -91,8 +91,7 @@ fn put_container(
     let first = rows.first;
     let count = rows.count;
     let mut next = at;
-    let mut i: u32 = 0;
-    while i < count {
+    for i in 0..count {
         let row = first + i;
         let value = put_label(pool, nodes, text, next, keyed, row);
         let written = put_node(pool, nodes, text, value, room - 1, row);
@@ -100,7 +99,6 @@ fn put_container(
             return Put::TooFar;
         };
         next = end;
-        i += 1;
     }
     Put::At(put_brackets(text, at, next, keyed))
 }

@@ -8,14 +8,12 @@ fn line_start(list: &[u8], number: usize) -> usize
     ensures { result ≤ length list.now }
 {
     let mut at = 0;
-    let mut passed = 0;
-    while passed < number {
+    for passed in 0..number {
         let end = line_end(list, at);
         if end == list.len() {
             return end;
         }
         at = end + 1;
-        passed += 1;
     }
     at
 }

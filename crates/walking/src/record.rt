@@ -33,10 +33,8 @@ pub fn put_record(
     let segments = path.segments;
     let code = error.number();
     let mut next = put_record_head(errors, at, code, place, (count as u32) + 1);
-    let mut i: usize = 0;
-    while i < count {
+    for i in 0..count {
         next = put_path_segment(errors, next, segments[i]);
-        i += 1;
     }
     put_path_segment(errors, next, last)
 }

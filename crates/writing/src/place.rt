@@ -45,10 +45,8 @@ pub fn turn_into_place(text: &mut [u8], a: usize, b: usize, e: usize)
 pub fn clear(text: &mut [u8], from: usize)
     ensures { text.new ≡ zeroed_from from text.old }
 {
-    let mut i = from;
-    while i < text.len() {
+    for i in from..text.len() {
         text[i] = 0;
-        i += 1;
     }
 }
 
@@ -56,9 +54,7 @@ pub fn clear(text: &mut [u8], from: usize)
 pub fn clear_words(words: &mut [u32], from: usize)
     ensures { words.new ≡ zeroed_from from words.old }
 {
-    let mut i = from;
-    while i < words.len() {
+    for i in from..words.len() {
         words[i] = 0;
-        i += 1;
     }
 }

@@ -6,6 +6,3 @@ use Rattle.ladle.proofs.answer_arguments.Given as goal
 
 abbrev pub invariant-loop-number : goal.invariant-loop-number
 invariant-loop-number g l = length l.choices ≡ length l.initial.choices
-
-abbrev pub decreases-loop-number : goal.decreases-loop-number
-decreases-loop-number g l = l.count - l.number

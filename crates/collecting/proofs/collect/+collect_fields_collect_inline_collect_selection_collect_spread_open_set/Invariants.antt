@@ -20,6 +20,3 @@ decreases-open_set l = l.room * 4
 
 abbrev pub invariant-collect_fields-loop-i : goal.invariant-collect_fields-loop-i
 invariant-collect_fields-loop-i l = Going l.types l.members l.sets l.selections l.fragments l.nodes l.variables l.room l.object (record { first = l.first; count = l.count }) l.initial.list (record { visited = l.initial.visited; count = l.initial.fields }) l.list (record { visited = l.visited; count = l.fields }) l.i
-
-abbrev pub decreases-collect_fields-loop-i : goal.decreases-collect_fields-loop-i
-decreases-collect_fields-loop-i l = l.count - l.i

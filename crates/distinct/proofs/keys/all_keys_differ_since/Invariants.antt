@@ -8,6 +8,3 @@ use Rattle.distinct.proofs.keys.all_keys_differ_since.Given as goal
 
 abbrev pub invariant-loop-row : goal.invariant-loop-row
 invariant-loop-row l = (l.row ≤ l.rows) × (all (node_keys_differ l.pool l.nodes) l.row ≡ true)
-
-abbrev pub decreases-loop-row : goal.decreases-loop-row
-decreases-loop-row l = l.rows - l.row

@@ -8,6 +8,3 @@ use Rattle.distinct.proofs.keys.end_of_children.Given as goal
 
 abbrev pub invariant-loop-row : goal.invariant-loop-row
 invariant-loop-row l = (l.row ≤ l.rows) × (l.end ≤ 4096) × (l.end ≡ 0 → all (is_plain l.nodes) l.row ≡ true)
-
-abbrev pub decreases-loop-row : goal.decreases-loop-row
-decreases-loop-row l = l.rows - l.row

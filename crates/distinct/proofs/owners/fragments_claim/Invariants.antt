@@ -11,6 +11,3 @@ abbrev pub invariant-loop-row : goal.invariant-loop-row
 invariant-loop-row l = (l.row ≤ l.rows)
     × (all (fragment_owns_alone l.selections l.fragments) l.row ≡ true)
     × Marked (free_of_fragments l.selections l.fragments l.row) l.marks
-
-abbrev pub decreases-loop-row : goal.decreases-loop-row
-decreases-loop-row l = l.rows - l.row

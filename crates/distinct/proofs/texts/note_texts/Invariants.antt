@@ -12,6 +12,3 @@ invariant-loop-row l = (l.row ≤ l.count)
     × (length l.hashes ≡ length l.initial.hashes)
     × (length l.since ≡ length l.initial.since)
     × Kept l.pool l.t l.width l.column l.row l.heads l.next l.hashes l.since
-
-abbrev pub decreases-loop-row : goal.decreases-loop-row
-decreases-loop-row l = l.count - l.row

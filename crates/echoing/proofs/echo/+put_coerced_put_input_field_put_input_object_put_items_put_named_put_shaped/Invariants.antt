@@ -29,12 +29,6 @@ abbrev pub invariant-put_input_object-loop-i : goal.invariant-put_input_object-l
 invariant-put_input_object-loop-i l = Going field_size (field_out l.pool l.names l.fields) (l.room - 1) (of_field l.pool l.names l.type_refs l.types l.fields l.nodes l.literals l.variables (l.room - 1)
     (rows_in l.given)) l.first l.count l.initial.text l.at l.text l.next l.i
 
-abbrev pub decreases-put_input_object-loop-i : goal.decreases-put_input_object-loop-i
-decreases-put_input_object-loop-i l = l.count - l.i
-
 abbrev pub invariant-put_items-loop-i : goal.invariant-put_items-loop-i
 invariant-put_items-loop-i l = Going containers item_out (l.room - 1) (of_value l.pool l.names l.type_refs l.types l.fields l.nodes l.literals l.variables
     (l.room - 1) l.inner) l.first l.count l.initial.text l.at l.text l.next l.i
-
-abbrev pub decreases-put_items-loop-i : goal.decreases-put_items-loop-i
-decreases-put_items-loop-i l = l.count - l.i

@@ -6,6 +6,3 @@ use Rattle.input_coercion.proofs.arguments.coerce_argument_values.Given as goal
 
 abbrev pub invariant-loop-i : goal.invariant-loop-i
 invariant-loop-i l = Going (of_argument l.type_refs l.types l.fields l.nodes l.literals l.variables l.arguments l.given l.written) l.first l.count l.i
-
-abbrev pub decreases-loop-i : goal.decreases-loop-i
-decreases-loop-i l = l.count - l.i

@@ -12,6 +12,3 @@ decreases-check_parts l = l.room * 2
 
 abbrev pub invariant-check_parts-loop-i : goal.invariant-check_parts-loop-i
 invariant-check_parts-loop-i l = Going (of_part l.literals (l.room - 1)) l.first l.count l.i
-
-abbrev pub decreases-check_parts-loop-i : goal.decreases-check_parts-loop-i
-decreases-check_parts-loop-i l = l.count - l.i

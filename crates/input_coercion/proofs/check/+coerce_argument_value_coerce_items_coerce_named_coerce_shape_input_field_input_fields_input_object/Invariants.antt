@@ -29,11 +29,5 @@ decreases-input_object l = l.room * 8 + 4
 abbrev pub invariant-coerce_items-loop-i : goal.invariant-coerce_items-loop-i
 invariant-coerce_items-loop-i l = Going (of_value l.type_refs l.types l.fields l.nodes l.literals l.variables (l.room - 1) l.inner) l.first l.count l.i
 
-abbrev pub decreases-coerce_items-loop-i : goal.decreases-coerce_items-loop-i
-decreases-coerce_items-loop-i l = l.count - l.i
-
 abbrev pub invariant-input_fields-loop-i : goal.invariant-input_fields-loop-i
 invariant-input_fields-loop-i l = Going (of_field l.type_refs l.types l.fields l.nodes l.literals l.variables (l.room - 1) l.row (rows_in l.given)) l.first l.count l.i
-
-abbrev pub decreases-input_fields-loop-i : goal.decreases-input_fields-loop-i
-decreases-input_fields-loop-i l = l.count - l.i

@@ -6,6 +6,3 @@ use Rattle.input_coercion.proofs.check.has_unknown_key.Given as goal
 
 abbrev pub invariant-loop-i : goal.invariant-loop-i
 invariant-loop-i l = Seeking (unknown l.types l.fields l.literals l.ty) (record { first = l.first; count = l.count }) l.i
-
-abbrev pub decreases-loop-i : goal.decreases-loop-i
-decreases-loop-i l = l.count - l.i

@@ -20,6 +20,3 @@ decreases-check_spread l = l.room * 4 + 1
 
 abbrev pub invariant-check_selection_set-loop-i : goal.invariant-check_selection_set-loop-i
 invariant-check_selection_set-loop-i l = Going l.sets l.selections l.fragments (l.room - 1) l.depth_so_far l.first l.count l.initial.marks l.marks l.max_depth l.i
-
-abbrev pub decreases-check_selection_set-loop-i : goal.decreases-check_selection_set-loop-i
-decreases-check_selection_set-loop-i l = l.count - l.i

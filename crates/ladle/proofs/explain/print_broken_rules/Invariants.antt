@@ -4,6 +4,3 @@ use Rattle.ladle.proofs.explain.print_broken_rules.Given as goal
 
 abbrev pub invariant-loop-number : goal.invariant-loop-number
 invariant-loop-number g l = l.number ≤ l.count
-
-abbrev pub decreases-loop-number : goal.decreases-loop-number
-decreases-loop-number g l = l.count - l.number

@@ -6,6 +6,3 @@ use Rattle.lookup.proofs.find.find_word.Given as goal
 
 abbrev pub invariant-loop-i : goal.invariant-loop-i
 invariant-loop-i l = Seeking (has_word l.t l.width l.column l.word) (record { first = l.first; count = l.count }) l.i
-
-abbrev pub decreases-loop-i : goal.decreases-loop-i
-decreases-loop-i l = l.count - l.i

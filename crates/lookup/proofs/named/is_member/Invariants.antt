@@ -6,6 +6,3 @@ use Rattle.lookup.proofs.named.is_member.Given as goal
 
 abbrev pub invariant-loop-i : goal.invariant-loop-i
 invariant-loop-i l = Seeking (is_named l.pool l.names l.members l.string) (record { first = l.first; count = l.count }) l.i
-
-abbrev pub decreases-loop-i : goal.decreases-loop-i
-decreases-loop-i l = l.count - l.i

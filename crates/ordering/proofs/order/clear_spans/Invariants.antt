@@ -5,6 +5,3 @@ use Rattle.ordering.proofs.order.clear_spans.Given as goal
 
 abbrev pub invariant-loop-i : goal.invariant-loop-i
 invariant-loop-i l = Clearing l.initial.spans l.base l.groups l.spans l.i
-
-abbrev pub decreases-loop-i : goal.decreases-loop-i
-decreases-loop-i l = l.groups - l.i

@@ -5,6 +5,3 @@ use Rattle.ordering.proofs.order.entry_start.Given as goal
 
 abbrev pub invariant-loop-i : goal.invariant-loop-i
 invariant-loop-i l = Adding l.spans l.base l.group l.start l.at l.sum l.i
-
-abbrev pub decreases-loop-i : goal.decreases-loop-i
-decreases-loop-i l = l.group - l.i

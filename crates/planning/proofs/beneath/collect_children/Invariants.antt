@@ -5,6 +5,3 @@ use Rattle.planning.proofs.beneath.collect_children.Given as goal
 
 abbrev pub invariant-loop-i : goal.invariant-loop-i
 invariant-loop-i l = Merging l.types l.members l.sets l.selections l.fragments l.nodes l.variables l.plans l.object l.first l.fields l.group l.initial.list l.list (record { visited = l.visited; count = l.count }) l.i
-
-abbrev pub decreases-loop-i : goal.decreases-loop-i
-decreases-loop-i l = l.fields - l.i

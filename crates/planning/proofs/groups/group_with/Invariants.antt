@@ -5,6 +5,3 @@ use Rattle.planning.proofs.groups.group_with.Given as goal
 
 abbrev pub invariant-loop-i : goal.invariant-loop-i
 invariant-loop-i l = Seeking l.plans l.first l.groups l.key l.i
-
-abbrev pub decreases-loop-i : goal.decreases-loop-i
-decreases-loop-i l = l.groups - l.i

@@ -5,6 +5,3 @@ use Rattle.planning.proofs.groups.put_fields.Given as goal
 
 abbrev pub invariant-loop-i : goal.invariant-loop-i
 invariant-loop-i l = PutFields l.list l.owners l.first l.i l.initial.plans l.plans × (l.i ≤ l.count)
-
-abbrev pub decreases-loop-i : goal.decreases-loop-i
-decreases-loop-i l = l.count - l.i

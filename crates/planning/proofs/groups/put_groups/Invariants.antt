@@ -5,6 +5,3 @@ use Rattle.planning.proofs.groups.put_groups.Given as goal
 
 abbrev pub invariant-loop-i : goal.invariant-loop-i
 invariant-loop-i l = Grouping l.type_refs l.types l.fields l.selections l.list l.object l.first l.initial.plans l.plans l.owners l.groups l.i × (l.i ≤ l.count)
-
-abbrev pub decreases-loop-i : goal.decreases-loop-i
-decreases-loop-i l = l.count - l.i

@@ -5,6 +5,3 @@ use Rattle.replay.proofs.numbers.spelled.Given as goal
 
 abbrev pub invariant-loop-at : goal.invariant-loop-at
 invariant-loop-at l = (l.at ≤ length l.digits) × (l.value ≤ 1000000000)
-
-abbrev pub decreases-loop-at : goal.decreases-loop-at
-decreases-loop-at l = length l.digits - l.at

@@ -6,6 +6,3 @@ use Rattle.replay.proofs.runs.are_same_words.Given as goal
 
 abbrev pub invariant-loop-at : goal.invariant-loop-at
 invariant-loop-at l = (l.at ≤ length l.a) × (length l.a ≡ length l.b)
-
-abbrev pub decreases-loop-at : goal.decreases-loop-at
-decreases-loop-at l = length l.a - l.at

@@ -7,6 +7,3 @@ use Rattle.rows.proofs.strings.is_same_block.Given as goal
 
 abbrev pub invariant-loop-i : goal.invariant-loop-i
 invariant-loop-i l = l.agree ≡ same (take l.i l.a) (take l.i l.b)
-
-abbrev pub decreases-loop-i : goal.decreases-loop-i
-decreases-loop-i l = length l.a - l.i

@@ -10,6 +10,3 @@ use Rattle.rulebook.proofs.broken.first_broken.Given as goal
 abbrev pub invariant-loop-row : goal.invariant-loop-row
 invariant-loop-row l = (l.row ≤ l.rows)
     × (all (holds_at l.rule (tables l.pool l.names l.type_refs l.types l.members l.fields l.arguments l.sets l.selections l.given l.fragments l.nodes l.literals l.variables l.answers l.root)) l.row ≡ true)
-
-abbrev pub decreases-loop-row : goal.decreases-loop-row
-decreases-loop-row l = l.rows - l.row

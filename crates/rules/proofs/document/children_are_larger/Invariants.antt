@@ -8,6 +8,3 @@ use Rattle.rules.proofs.document.children_are_larger.Given as goal
 
 abbrev pub invariant-loop-i : goal.invariant-loop-i
 invariant-loop-i l = (l.i ≤ l.count) × (all (λ k. child_larger l.selections l.set (l.first + k)) l.i ≡ true)
-
-abbrev pub decreases-loop-i : goal.decreases-loop-i
-decreases-loop-i l = l.count - l.i

@@ -8,6 +8,3 @@ use Rattle.rules.proofs.document.is_owned_nowhere.Given as goal
 
 abbrev pub invariant-loop-j : goal.invariant-loop-j
 invariant-loop-j l = (l.j ≤ l.n) × (all (λ k. owns_other l.set (owned_set l.selections k)) l.j ≡ true)
-
-abbrev pub decreases-loop-j : goal.decreases-loop-j
-decreases-loop-j l = l.n - l.j

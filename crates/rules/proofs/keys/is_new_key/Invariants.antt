@@ -8,6 +8,3 @@ use Rattle.rules.proofs.keys.is_new_key.Given as goal
 
 abbrev pub invariant-loop-j : goal.invariant-loop-j
 invariant-loop-j l = (l.j ≤ l.i) × (all (λ k. other_key l.pool l.nodes (l.first + l.i) (l.first + k)) l.j ≡ true)
-
-abbrev pub decreases-loop-j : goal.decreases-loop-j
-decreases-loop-j l = l.i - l.j

@@ -9,6 +9,3 @@ use Rattle.rules.proofs.layout.is_distinct.Given as goal
 
 abbrev pub invariant-loop-i : goal.invariant-loop-i
 invariant-loop-i l = (l.i ≤ l.count) × (all (is_new l.t l.width l.column l.first) l.i ≡ true) × Met l.t l.width l.column l.first l.i l.marks
-
-abbrev pub decreases-loop-i : goal.decreases-loop-i
-decreases-loop-i l = l.count - l.i

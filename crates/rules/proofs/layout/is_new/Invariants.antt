@@ -8,6 +8,3 @@ use Rattle.rules.proofs.layout.is_new.Given as goal
 
 abbrev pub invariant-loop-j : goal.invariant-loop-j
 invariant-loop-j l = (l.j ≤ l.i) × (all (λ k. other l.t l.width l.column (l.first + l.i) (l.first + k)) l.j ≡ true)
-
-abbrev pub decreases-loop-j : goal.decreases-loop-j
-decreases-loop-j l = l.i - l.j

@@ -8,6 +8,3 @@ use Rattle.rules.proofs.names.name_is_new.Given as goal
 
 abbrev pub invariant-loop-j : goal.invariant-loop-j
 invariant-loop-j l = (l.j ≤ l.row) × (all (other_name l.pool l.names l.row) l.j ≡ true)
-
-abbrev pub decreases-loop-j : goal.decreases-loop-j
-decreases-loop-j l = l.row - l.j

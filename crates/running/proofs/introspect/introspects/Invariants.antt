@@ -5,6 +5,3 @@ use Rattle.running.proofs.introspect.introspects.Given as goal
 
 abbrev pub invariant-loop-row : goal.invariant-loop-row
 invariant-loop-row l = Unasked l.selections l.count l.row
-
-abbrev pub decreases-loop-row : goal.decreases-loop-row
-decreases-loop-row l = l.count - l.row

@@ -4,6 +4,3 @@ use Rattle.table_file.proofs.names.find_name.Given as goal
 
 abbrev pub invariant-loop-row : goal.invariant-loop-row
 invariant-loop-row l = l.row ≤ l.rows
-
-abbrev pub decreases-loop-row : goal.decreases-loop-row
-decreases-loop-row l = l.rows - l.row

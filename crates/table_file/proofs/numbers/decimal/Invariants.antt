@@ -5,6 +5,3 @@ use Rattle.table_file.proofs.numbers.decimal.Given as goal
 
 abbrev pub invariant-loop-at : goal.invariant-loop-at
 invariant-loop-at l = l.value ≤ 18446744073709551615
-
-abbrev pub decreases-loop-at : goal.decreases-loop-at
-decreases-loop-at l = length l.token - l.at

@@ -4,6 +4,3 @@ use Rattle.table_file.proofs.row.repeat_bytes.Given as goal
 
 abbrev pub invariant-loop-k : goal.invariant-loop-k
 invariant-loop-k l = l.count ≤ l.k
-
-abbrev pub decreases-loop-k : goal.decreases-loop-k
-decreases-loop-k l = l.total - l.k

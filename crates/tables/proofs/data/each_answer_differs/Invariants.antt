@@ -7,6 +7,3 @@ use Rattle.tables.proofs.data.each_answer_differs.Given as goal
 
 abbrev pub invariant-loop-row : goal.invariant-loop-row
 invariant-loop-row l = (l.row ≤ l.count) × (all (answer_names_differ l.answers) l.row ≡ true)
-
-abbrev pub decreases-loop-row : goal.decreases-loop-row
-decreases-loop-row l = l.count - l.row

@@ -6,6 +6,3 @@ use Rattle.tables.proofs.data.look_at_answers.Given as goal
 
 abbrev pub invariant-loop-row : goal.invariant-loop-row
 invariant-loop-row l = (l.row ≤ l.count) × Passed (answer_row l.names l.nodes l.count l.answers) (plain_answer l.answers) l.row l.plain
-
-abbrev pub decreases-loop-row : goal.decreases-loop-row
-decreases-loop-row l = l.count - l.row

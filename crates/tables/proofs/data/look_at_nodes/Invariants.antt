@@ -6,6 +6,3 @@ use Rattle.tables.proofs.data.look_at_nodes.Given as goal
 
 abbrev pub invariant-loop-row : goal.invariant-loop-row
 invariant-loop-row l = (l.row ≤ l.count) × Passed (node_holds l.pool l.count l.nodes) (is_plain l.nodes) l.row l.plain
-
-abbrev pub decreases-loop-row : goal.decreases-loop-row
-decreases-loop-row l = l.count - l.row

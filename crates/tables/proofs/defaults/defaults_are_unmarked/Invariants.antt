@@ -8,6 +8,3 @@ use Rattle.tables.proofs.defaults.defaults_are_unmarked.Given as goal
 
 abbrev pub invariant-loop-row : goal.invariant-loop-row
 invariant-loop-row l = (l.row ≤ l.rows) × (all (row_unmarked l.t l.width l.column l.runs) l.row ≡ true)
-
-abbrev pub decreases-loop-row : goal.decreases-loop-row
-decreases-loop-row l = l.rows - l.row

@@ -7,6 +7,3 @@ use Rattle.tables.proofs.document.each_fragment_holds.Given as goal
 
 abbrev pub invariant-loop-row : goal.invariant-loop-row
 invariant-loop-row l = (l.row ≤ l.count) × (all (fragment_row l.names l.sets l.fragments) l.row ≡ true)
-
-abbrev pub decreases-loop-row : goal.decreases-loop-row
-decreases-loop-row l = l.count - l.row

@@ -7,6 +7,3 @@ use Rattle.tables.proofs.document.each_given_holds.Given as goal
 
 abbrev pub invariant-loop-row : goal.invariant-loop-row
 invariant-loop-row l = (l.row ≤ l.count) × (all (given_row l.names l.literals l.given) l.row ≡ true)
-
-abbrev pub decreases-loop-row : goal.decreases-loop-row
-decreases-loop-row l = l.count - l.row

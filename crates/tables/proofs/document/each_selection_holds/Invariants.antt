@@ -7,6 +7,3 @@ use Rattle.tables.proofs.document.each_selection_holds.Given as goal
 
 abbrev pub invariant-loop-row : goal.invariant-loop-row
 invariant-loop-row l = (l.row ≤ l.count) × (all (selection_holds l.names l.type_refs l.sets l.selections l.given) l.row ≡ true)
-
-abbrev pub decreases-loop-row : goal.decreases-loop-row
-decreases-loop-row l = l.count - l.row

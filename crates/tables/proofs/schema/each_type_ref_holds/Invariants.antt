@@ -7,6 +7,3 @@ use Rattle.tables.proofs.schema.each_type_ref_holds.Given as goal
 
 abbrev pub invariant-loop-row : goal.invariant-loop-row
 invariant-loop-row l = (l.row ≤ l.count) × (all (type_ref_row l.names l.type_refs) l.row ≡ true)
-
-abbrev pub decreases-loop-row : goal.decreases-loop-row
-decreases-loop-row l = l.count - l.row

@@ -8,6 +8,3 @@ use Rattle.text.proofs.ascii.is_ascii.Given as goal
 
 abbrev pub invariant-loop-i : goal.invariant-loop-i
 invariant-loop-i l = ltb l.gathered 0x80 ≡ is_ascii (take l.i l.s)
-
-abbrev pub decreases-loop-i : goal.decreases-loop-i
-decreases-loop-i l = length l.s - l.i

@@ -7,6 +7,3 @@ use Rattle.text.proofs.names.is_name.Given as goal
 
 abbrev pub invariant-loop-i : goal.invariant-loop-i
 invariant-loop-i l = is_name l.s ≡ all_name_continue (drop l.i l.s)
-
-abbrev pub decreases-loop-i : goal.decreases-loop-i
-decreases-loop-i l = length l.s - l.i

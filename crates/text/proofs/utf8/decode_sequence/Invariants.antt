@@ -5,6 +5,3 @@ use Rattle.text.proofs.utf8.decode_sequence.Given as goal
 
 abbrev pub invariant-loop-i : goal.invariant-loop-i
 invariant-loop-i l = Half l.s l.at l.size l.point l.i
-
-abbrev pub decreases-loop-i : goal.decreases-loop-i
-decreases-loop-i l = l.at + l.size - l.i

@@ -7,6 +7,3 @@ use Rattle.tokens.proofs.json.are_plain.Given as goal
 
 abbrev pub invariant-loop-i : goal.invariant-loop-i
 invariant-loop-i l = l.plain ≡ all_plain (take l.i l.s)
-
-abbrev pub decreases-loop-i : goal.decreases-loop-i
-decreases-loop-i l = length l.s - l.i

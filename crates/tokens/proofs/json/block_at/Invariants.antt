@@ -5,6 +5,3 @@ use Rattle.tokens.proofs.json.block_at.Given as goal
 
 abbrev pub invariant-loop-i : goal.invariant-loop-i
 invariant-loop-i l = Reading 16 l.s l.from l.block l.i
-
-abbrev pub decreases-loop-i : goal.decreases-loop-i
-decreases-loop-i l = 16 - l.i

@@ -7,6 +7,3 @@ use Rattle.tokens.proofs.json.put_each_escaped.Given as goal
 
 abbrev pub invariant-loop-i : goal.invariant-loop-i
 invariant-loop-i l = Putting escaped_all l.initial.text l.at l.s l.text l.next l.i
-
-abbrev pub decreases-loop-i : goal.decreases-loop-i
-decreases-loop-i l = length l.s - l.i

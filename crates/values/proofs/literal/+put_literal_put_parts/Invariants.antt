@@ -13,6 +13,3 @@ decreases-put_parts l = l.room * 2
 
 abbrev pub invariant-put_parts-loop-i : goal.invariant-put_parts-loop-i
 invariant-put_parts-loop-i l = Going (literal_key_text l.pool l.names l.literals) (part_by_part l.pool l.names l.literals (l.room - 1)) l.keyed l.first l.count l.initial.text l.at l.text l.next l.i
-
-abbrev pub decreases-put_parts-loop-i : goal.decreases-put_parts-loop-i
-decreases-put_parts-loop-i l = l.count - l.i

@@ -13,6 +13,3 @@ decreases-put_node l = l.room * 2 + 1
 
 abbrev pub invariant-put_container-loop-i : goal.invariant-put_container-loop-i
 invariant-put_container-loop-i l = Going (key_text l.pool l.nodes) (node_value l.pool l.nodes (l.room - 1)) l.keyed l.first l.count l.initial.text l.at l.text l.next l.i
-
-abbrev pub decreases-put_container-loop-i : goal.decreases-put_container-loop-i
-decreases-put_container-loop-i l = l.count - l.i

@@ -5,6 +5,3 @@ use Rattle.verdict.proofs.lists.line_start.Given as goal
 
 abbrev pub invariant-loop-passed : goal.invariant-loop-passed
 invariant-loop-passed l = l.at ≤ length l.list
-
-abbrev pub decreases-loop-passed : goal.decreases-loop-passed
-decreases-loop-passed l = l.number - l.passed

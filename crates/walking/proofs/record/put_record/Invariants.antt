@@ -5,6 +5,3 @@ use Rattle.walking.proofs.record.put_record.Given as goal
 
 abbrev pub invariant-loop-i : goal.invariant-loop-i
 invariant-loop-i l = Recording l.segments l.count l.initial.errors l.initial.next l.errors l.next l.i
-
-abbrev pub decreases-loop-i : goal.decreases-loop-i
-decreases-loop-i l = l.count - l.i
