@@ -14,6 +14,7 @@ ghost use Rattle.completing.specs.Judged.{NamesType, NamesObject, TypesAt, Types
 use codes::errors::FieldError;
 use lookup::named::{has_value, is_non_null, lists_name, type_named};
 use rows::schema::{TypeKind, TypeRef, type_at, type_ref_at};
+use rows::tables::Tables;
 use values::sort::Sort;
 
 // The reserved names of the scalars.
@@ -40,11 +41,11 @@ pub enum Typed {
 }
 
 // "then list type without a list; undefined type": the type at which a leaf or an object is completed.
-fn named_type(type_refs: &[u32], types: &[u32], ty: u32) -> Typed
-    ensures { NamesType type_refs.now types.now ty result }
+fn named_type(tables: &Tables, ty: u32) -> Typed
+    ensures { let t = tables.now in NamesType t.type_refs.now t.types.now ty result }
 {
-    match type_ref_at(type_refs, ty) {
-        TypeRef::Named { name, nullable: _ } => match type_named(types, name) {
+    match type_ref_at(tables.type_refs, ty) {
+        TypeRef::Named { name, nullable: _ } => match type_named(tables.types, name) {
             None => Typed::Error(FieldError::UndefinedType),
             Some(row) => Typed::Type(row),
         },
@@ -127,20 +128,12 @@ pub fn scalar_takes(name: u32, sort: Sort) -> Verdict
     }
 }
 
-fn enum_takes(
-    pool: &[u8],
-    names: &[u32],
-    types: &[u32],
-    members: &[u32],
-    ty: u32,
-    sort: Sort,
-    string: &[u8],
-) -> Verdict
-    requires { Listed types.now }
-    ensures { JudgesAt pool.now names.now types.now members.now ty kind.Enum sort string.now result }
+fn enum_takes(tables: &Tables, ty: u32, sort: Sort, string: &[u8]) -> Verdict
+    requires { let t = tables.now in Listed t.types.now }
+    ensures { let t = tables.now in JudgesAt t.pool.now t.names.now t.types.now t.members.now ty kind.Enum sort string.now result }
 {
     if is_string(sort) {
-        if has_value(pool, names, types, members, ty, string) {
+        if has_value(tables, ty, string) {
             return Verdict::Fits;
         }
     }
@@ -148,23 +141,15 @@ fn enum_takes(
 }
 
 // A leaf that is no null.
-fn leaf_at(
-    pool: &[u8],
-    names: &[u32],
-    types: &[u32],
-    members: &[u32],
-    ty: u32,
-    sort: Sort,
-    string: &[u8],
-) -> Verdict
-    requires { Listed types.now }
-    ensures { JudgesAt pool.now names.now types.now members.now ty (type_at types.now ty).kind sort string.now result }
+fn leaf_at(tables: &Tables, ty: u32, sort: Sort, string: &[u8]) -> Verdict
+    requires { let t = tables.now in Listed t.types.now }
+    ensures { let t = tables.now in JudgesAt t.pool.now t.names.now t.types.now t.members.now ty (type_at t.types.now ty).kind sort string.now result }
 {
-    let def = type_at(types, ty);
+    let def = type_at(tables.types, ty);
     let kind = def.kind;
     match kind {
         TypeKind::Scalar => scalar_takes(def.name, sort),
-        TypeKind::Enum => enum_takes(pool, names, types, members, ty, sort, string),
+        TypeKind::Enum => enum_takes(tables, ty, sort, string),
         TypeKind::InputObject => Verdict::Error(FieldError::InputObjectType),
         TypeKind::Unknown => Verdict::Error(FieldError::UndefinedType),
         _ => Verdict::Error(FieldError::LeafForComposite),
@@ -181,26 +166,17 @@ fn null_at(type_refs: &[u32], ty: u32) -> Verdict
 }
 
 // Whether a leaf of this sort, with these bytes if it is a string, fits a type; a null comes before everything else.
-pub fn judge_leaf(
-    pool: &[u8],
-    names: &[u32],
-    type_refs: &[u32],
-    types: &[u32],
-    members: &[u32],
-    ty: u32,
-    sort: Sort,
-    string: &[u8],
-) -> Verdict
-    requires { Listed types.now }
-    ensures { JudgesLeaf pool.now names.now type_refs.now types.now members.now ty sort string.now result }
+pub fn judge_leaf(tables: &Tables, ty: u32, sort: Sort, string: &[u8]) -> Verdict
+    requires { let t = tables.now in Listed t.types.now }
+    ensures { let t = tables.now in JudgesLeaf t.pool.now t.names.now t.type_refs.now t.types.now t.members.now ty sort string.now result }
 {
     let Sort::Null = sort else {
-        return match named_type(type_refs, types, ty) {
+        return match named_type(tables, ty) {
             Typed::Error(error) => Verdict::Error(error),
-            Typed::Type(row) => leaf_at(pool, names, types, members, row, sort, string),
+            Typed::Type(row) => leaf_at(tables, row, sort, string),
         };
     };
-    null_at(type_refs, ty)
+    null_at(tables.type_refs, ty)
 }
 
 // The object type of this name, if there is one.
@@ -228,60 +204,56 @@ fn object_if(ok: bool, row: u32, error: FieldError) -> Typed
 }
 
 // ResolveAbstractType, for an interface.
-fn implementing(types: &[u32], members: &[u32], ty: u32, name: u32) -> Typed
-    requires { Listed types.now }
-    ensures { TypesAt types.now members.now ty kind.Interface name result }
+fn implementing(tables: &Tables, ty: u32, name: u32) -> Typed
+    requires { let t = tables.now in Listed t.types.now }
+    ensures { let t = tables.now in TypesAt t.types.now t.members.now ty kind.Interface name result }
 {
-    let Some(object) = object_named(types, name) else {
+    let Some(object) = object_named(tables.types, name) else {
         return Typed::Error(FieldError::ObjectTypeUnknown);
     };
-    let def = type_at(types, ty);
+    let def = type_at(tables.types, ty);
     object_if(
-        lists_name(types, members, object, def.name),
+        lists_name(tables, object, def.name),
         object,
         FieldError::NotImplementing,
     )
 }
 
 // ResolveAbstractType, for a union.
-fn member_of(types: &[u32], members: &[u32], ty: u32, name: u32) -> Typed
-    requires { Listed types.now }
-    ensures { TypesAt types.now members.now ty kind.Union name result }
+fn member_of(tables: &Tables, ty: u32, name: u32) -> Typed
+    requires { let t = tables.now in Listed t.types.now }
+    ensures { let t = tables.now in TypesAt t.types.now t.members.now ty kind.Union name result }
 {
-    let Some(object) = object_named(types, name) else {
+    let Some(object) = object_named(tables.types, name) else {
         return Typed::Error(FieldError::ObjectTypeUnknown);
     };
-    object_if(
-        lists_name(types, members, ty, name),
-        object,
-        FieldError::NotInUnion,
-    )
+    object_if(lists_name(tables, ty, name), object, FieldError::NotInUnion)
 }
 
-fn object_at(types: &[u32], members: &[u32], ty: u32, name: u32) -> Typed
-    requires { Listed types.now }
-    ensures { TypesAt types.now members.now ty (type_at types.now ty).kind name result }
+fn object_at(tables: &Tables, ty: u32, name: u32) -> Typed
+    requires { let t = tables.now in Listed t.types.now }
+    ensures { let t = tables.now in TypesAt t.types.now t.members.now ty (type_at t.types.now ty).kind name result }
 {
-    let def = type_at(types, ty);
+    let def = type_at(tables.types, ty);
     let kind = def.kind;
     match kind {
         TypeKind::Scalar => Typed::Error(FieldError::ObjectForLeafType),
         TypeKind::Enum => Typed::Error(FieldError::ObjectForLeafType),
         TypeKind::Object => object_if(name == def.name, ty, FieldError::OtherObjectType),
-        TypeKind::Interface => implementing(types, members, ty, name),
-        TypeKind::Union => member_of(types, members, ty, name),
+        TypeKind::Interface => implementing(tables, ty, name),
+        TypeKind::Union => member_of(tables, ty, name),
         TypeKind::InputObject => Typed::Error(FieldError::InputObjectType),
         TypeKind::Unknown => Typed::Error(FieldError::UndefinedType),
     }
 }
 
 // The object type of an answer that names one, completed at a type.
-pub fn object_type(type_refs: &[u32], types: &[u32], members: &[u32], ty: u32, name: u32) -> Typed
-    requires { Listed types.now }
-    ensures { TypesObject type_refs.now types.now members.now ty name result }
+pub fn object_type(tables: &Tables, ty: u32, name: u32) -> Typed
+    requires { let t = tables.now in Listed t.types.now }
+    ensures { let t = tables.now in TypesObject t.type_refs.now t.types.now t.members.now ty name result }
 {
-    match named_type(type_refs, types, ty) {
+    match named_type(tables, ty) {
         Typed::Error(error) => Typed::Error(error),
-        Typed::Type(row) => object_at(types, members, row, name),
+        Typed::Type(row) => object_at(tables, row, name),
     }
 }

@@ -9,6 +9,7 @@ use planning::plan::{Planned, plan_apart, plan_for};
 use resolving::field::{Container, Step, complete_item, execute_field};
 use resolving::resolve::Asked;
 use rows::layout::Range;
+use rows::tables::Tables;
 use walking::path::{Path, below};
 use walking::settle::{moved, past_list, placed, stopped};
 use walking::state::{Completed, Done, Kind, State};
@@ -20,21 +21,7 @@ pub const SPANS: usize = 128;
 // The items of a list, each as far as it goes.
 #[cycle(complete_items_enter_field_execute_apart_execute_object_execute_selection_set_go_on)]
 fn complete_items(
-    pool: &[u8],
-    names: &[u32],
-    type_refs: &[u32],
-    types: &[u32],
-    members: &[u32],
-    fields: &[u32],
-    arguments: &[u32],
-    sets: &[u32],
-    selections: &[u32],
-    given: &[u32],
-    fragments: &[u32],
-    nodes: &[u32],
-    literals: &[u32],
-    variables: &[u32],
-    answers: &[u32],
+    tables: &Tables,
     choices: &[u32],
     text: &mut [u8],
     errors: &mut [u32],
@@ -49,8 +36,8 @@ fn complete_items(
     rows: Range,
     s: State,
 ) -> Done
-    requires { ItemsReady (asking pool.now names.now type_refs.now types.now members.now fields.now arguments.now sets.now selections.now given.now fragments.now nodes.now literals.now variables.now answers.now) plans.old spans.old hints.old path s plan group asked rows }
-    ensures { ItemsDone (asking pool.now names.now type_refs.now types.now members.now fields.now arguments.now sets.now selections.now given.now fragments.now nodes.now literals.now variables.now answers.now) choices.now text.old errors.old plans.old spans.old hints.old path s plan group asked inner rows result text.new errors.new plans.new spans.new hints.new }
+    requires { let t = tables.now in ItemsReady (asking t.pool.now t.names.now t.type_refs.now t.types.now t.members.now t.fields.now t.arguments.now t.sets.now t.selections.now t.given.now t.fragments.now t.nodes.now t.literals.now t.variables.now t.answers.now) plans.old spans.old hints.old path s plan group asked rows }
+    ensures { let t = tables.now in ItemsDone (asking t.pool.now t.names.now t.type_refs.now t.types.now t.members.now t.fields.now t.arguments.now t.sets.now t.selections.now t.given.now t.fragments.now t.nodes.now t.literals.now t.variables.now t.answers.now) choices.now text.old errors.old plans.old spans.old hints.old path s plan group asked inner rows result text.new errors.new plans.new spans.new hints.new }
 {
     let first = rows.first;
     let count = rows.count;
@@ -58,18 +45,7 @@ fn complete_items(
     let mut state = s;
     for i in 0..count {
         let step = complete_item(
-            pool,
-            names,
-            type_refs,
-            types,
-            members,
-            fields,
-            arguments,
-            given,
-            nodes,
-            literals,
-            variables,
-            answers,
+            tables,
             text,
             errors,
             path,
@@ -80,9 +56,7 @@ fn complete_items(
             state,
         );
         let d = go_on(
-            pool, names, type_refs, types, members, fields, arguments, sets, selections, given,
-            fragments, nodes, literals, variables, answers, choices, text, errors, plans, spans,
-            hints, path, plan, group, step, state,
+            tables, choices, text, errors, plans, spans, hints, path, plan, group, step, state,
         );
         state = d.state;
         let what = d.what;
@@ -100,21 +74,7 @@ fn complete_items(
 // An object whose plan found no room has a store to itself, as long as it takes.
 #[cycle(complete_items_enter_field_execute_apart_execute_object_execute_selection_set_go_on)]
 fn execute_apart(
-    pool: &[u8],
-    names: &[u32],
-    type_refs: &[u32],
-    types: &[u32],
-    members: &[u32],
-    fields: &[u32],
-    arguments: &[u32],
-    sets: &[u32],
-    selections: &[u32],
-    given: &[u32],
-    fragments: &[u32],
-    nodes: &[u32],
-    literals: &[u32],
-    variables: &[u32],
-    answers: &[u32],
+    tables: &Tables,
     choices: &[u32],
     text: &mut [u8],
     errors: &mut [u32],
@@ -128,33 +88,16 @@ fn execute_apart(
     rows: Range,
     s: State,
 ) -> Done
-    requires { ObjectReady (asking pool.now names.now type_refs.now types.now members.now fields.now arguments.now sets.now selections.now given.now fragments.now nodes.now literals.now variables.now answers.now) plans.now spans.old hints.old path s plan group object rows }
-    ensures { ObjectDone (asking pool.now names.now type_refs.now types.now members.now fields.now arguments.now sets.now selections.now given.now fragments.now nodes.now literals.now variables.now answers.now) choices.now text.old errors.old plans.now spans.old hints.old path s plan group object rows result text.new errors.new plans.now spans.new hints.new }
+    requires { let t = tables.now in ObjectReady (asking t.pool.now t.names.now t.type_refs.now t.types.now t.members.now t.fields.now t.arguments.now t.sets.now t.selections.now t.given.now t.fragments.now t.nodes.now t.literals.now t.variables.now t.answers.now) plans.now spans.old hints.old path s plan group object rows }
+    ensures { let t = tables.now in ObjectDone (asking t.pool.now t.names.now t.type_refs.now t.types.now t.members.now t.fields.now t.arguments.now t.sets.now t.selections.now t.given.now t.fragments.now t.nodes.now t.literals.now t.variables.now t.answers.now) choices.now text.old errors.old plans.now spans.old hints.old path s plan group object rows result text.new errors.new plans.now spans.new hints.new }
 {
     let mut store = [0u16; SMALL_WORDS];
-    let planned = plan_apart(
-        type_refs, types, members, fields, sets, selections, fragments, nodes, variables, plans,
-        &mut store, plan, group, object,
-    );
+    let planned = plan_apart(tables, plans, &mut store, plan, group, object);
     let Planned::At { plan: own, top } = planned else {
         return stopped(s, stop_code(planned));
     };
     let d = execute_selection_set(
-        pool,
-        names,
-        type_refs,
-        types,
-        members,
-        fields,
-        arguments,
-        sets,
-        selections,
-        given,
-        fragments,
-        nodes,
-        literals,
-        variables,
-        answers,
+        tables,
         choices,
         text,
         errors,
@@ -173,21 +116,7 @@ fn execute_apart(
 // The set of an object answer: ExecuteSelectionSet of what is beneath a group, by its plan.
 #[cycle(complete_items_enter_field_execute_apart_execute_object_execute_selection_set_go_on)]
 fn execute_object(
-    pool: &[u8],
-    names: &[u32],
-    type_refs: &[u32],
-    types: &[u32],
-    members: &[u32],
-    fields: &[u32],
-    arguments: &[u32],
-    sets: &[u32],
-    selections: &[u32],
-    given: &[u32],
-    fragments: &[u32],
-    nodes: &[u32],
-    literals: &[u32],
-    variables: &[u32],
-    answers: &[u32],
+    tables: &Tables,
     choices: &[u32],
     text: &mut [u8],
     errors: &mut [u32],
@@ -201,35 +130,16 @@ fn execute_object(
     rows: Range,
     s: State,
 ) -> Done
-    requires { ObjectReady (asking pool.now names.now type_refs.now types.now members.now fields.now arguments.now sets.now selections.now given.now fragments.now nodes.now literals.now variables.now answers.now) plans.old spans.old hints.old path s plan group object rows }
-    ensures { ObjectDone (asking pool.now names.now type_refs.now types.now members.now fields.now arguments.now sets.now selections.now given.now fragments.now nodes.now literals.now variables.now answers.now) choices.now text.old errors.old plans.old spans.old hints.old path s plan group object rows result text.new errors.new plans.new spans.new hints.new }
+    requires { let t = tables.now in ObjectReady (asking t.pool.now t.names.now t.type_refs.now t.types.now t.members.now t.fields.now t.arguments.now t.sets.now t.selections.now t.given.now t.fragments.now t.nodes.now t.literals.now t.variables.now t.answers.now) plans.old spans.old hints.old path s plan group object rows }
+    ensures { let t = tables.now in ObjectDone (asking t.pool.now t.names.now t.type_refs.now t.types.now t.members.now t.fields.now t.arguments.now t.sets.now t.selections.now t.given.now t.fragments.now t.nodes.now t.literals.now t.variables.now t.answers.now) choices.now text.old errors.old plans.old spans.old hints.old path s plan group object rows result text.new errors.new plans.new spans.new hints.new }
 {
-    let planned = plan_for(
-        type_refs, types, members, fields, sets, selections, fragments, nodes, variables, plans,
-        hints, s.top, plan, group, object,
-    );
+    let planned = plan_for(tables, plans, hints, s.top, plan, group, object);
     match planned {
         Planned::NoRoom => execute_apart(
-            pool, names, type_refs, types, members, fields, arguments, sets, selections, given,
-            fragments, nodes, literals, variables, answers, choices, text, errors, plans, spans,
-            hints, path, plan, group, object, rows, s,
+            tables, choices, text, errors, plans, spans, hints, path, plan, group, object, rows, s,
         ),
         Planned::At { plan: own, top } => execute_selection_set(
-            pool,
-            names,
-            type_refs,
-            types,
-            members,
-            fields,
-            arguments,
-            sets,
-            selections,
-            given,
-            fragments,
-            nodes,
-            literals,
-            variables,
-            answers,
+            tables,
             choices,
             text,
             errors,
@@ -249,21 +159,7 @@ fn execute_object(
 // A field or an item that is a list or an object is completed; another is done.
 #[cycle(complete_items_enter_field_execute_apart_execute_object_execute_selection_set_go_on)]
 fn go_on(
-    pool: &[u8],
-    names: &[u32],
-    type_refs: &[u32],
-    types: &[u32],
-    members: &[u32],
-    fields: &[u32],
-    arguments: &[u32],
-    sets: &[u32],
-    selections: &[u32],
-    given: &[u32],
-    fragments: &[u32],
-    nodes: &[u32],
-    literals: &[u32],
-    variables: &[u32],
-    answers: &[u32],
+    tables: &Tables,
     choices: &[u32],
     text: &mut [u8],
     errors: &mut [u32],
@@ -276,8 +172,8 @@ fn go_on(
     step: Step,
     s: State,
 ) -> Done
-    requires { StepReady (asking pool.now names.now type_refs.now types.now members.now fields.now arguments.now sets.now selections.now given.now fragments.now nodes.now literals.now variables.now answers.now) plans.old spans.old hints.old path s plan group step }
-    ensures { StepDone (asking pool.now names.now type_refs.now types.now members.now fields.now arguments.now sets.now selections.now given.now fragments.now nodes.now literals.now variables.now answers.now) choices.now text.old errors.old plans.old spans.old hints.old path s plan group step result text.new errors.new plans.new spans.new hints.new }
+    requires { let t = tables.now in StepReady (asking t.pool.now t.names.now t.type_refs.now t.types.now t.members.now t.fields.now t.arguments.now t.sets.now t.selections.now t.given.now t.fragments.now t.nodes.now t.literals.now t.variables.now t.answers.now) plans.old spans.old hints.old path s plan group step }
+    ensures { let t = tables.now in StepDone (asking t.pool.now t.names.now t.type_refs.now t.types.now t.members.now t.fields.now t.arguments.now t.sets.now t.selections.now t.given.now t.fragments.now t.nodes.now t.literals.now t.variables.now t.answers.now) choices.now text.old errors.old plans.old spans.old hints.old path s plan group step result text.new errors.new plans.new spans.new hints.new }
 {
     let deeper = match step {
         Step::Finished(d) => {
@@ -294,21 +190,7 @@ fn go_on(
             rows,
         } => {
             let d = complete_items(
-                pool,
-                names,
-                type_refs,
-                types,
-                members,
-                fields,
-                arguments,
-                sets,
-                selections,
-                given,
-                fragments,
-                nodes,
-                literals,
-                variables,
-                answers,
+                tables,
                 choices,
                 text,
                 errors,
@@ -327,21 +209,7 @@ fn go_on(
         }
         Container::Object { object, rows } => {
             let d = execute_object(
-                pool,
-                names,
-                type_refs,
-                types,
-                members,
-                fields,
-                arguments,
-                sets,
-                selections,
-                given,
-                fragments,
-                nodes,
-                literals,
-                variables,
-                answers,
+                tables,
                 choices,
                 text,
                 errors,
@@ -363,21 +231,7 @@ fn go_on(
 // The field of a group, with its comma and its key.
 #[cycle(complete_items_enter_field_execute_apart_execute_object_execute_selection_set_go_on)]
 fn enter_field(
-    pool: &[u8],
-    names: &[u32],
-    type_refs: &[u32],
-    types: &[u32],
-    members: &[u32],
-    fields: &[u32],
-    arguments: &[u32],
-    sets: &[u32],
-    selections: &[u32],
-    given: &[u32],
-    fragments: &[u32],
-    nodes: &[u32],
-    literals: &[u32],
-    variables: &[u32],
-    answers: &[u32],
+    tables: &Tables,
     choices: &[u32],
     text: &mut [u8],
     errors: &mut [u32],
@@ -391,23 +245,11 @@ fn enter_field(
     rows: Range,
     s: State,
 ) -> Done
-    requires { FieldReady (asking pool.now names.now type_refs.now types.now members.now fields.now arguments.now sets.now selections.now given.now fragments.now nodes.now literals.now variables.now answers.now) plans.old spans.old hints.old path s plan group object rows }
-    ensures { FieldDone (asking pool.now names.now type_refs.now types.now members.now fields.now arguments.now sets.now selections.now given.now fragments.now nodes.now literals.now variables.now answers.now) choices.now text.old errors.old plans.old spans.old hints.old path s plan group object rows result text.new errors.new plans.new spans.new hints.new }
+    requires { let t = tables.now in FieldReady (asking t.pool.now t.names.now t.type_refs.now t.types.now t.members.now t.fields.now t.arguments.now t.sets.now t.selections.now t.given.now t.fragments.now t.nodes.now t.literals.now t.variables.now t.answers.now) plans.old spans.old hints.old path s plan group object rows }
+    ensures { let t = tables.now in FieldDone (asking t.pool.now t.names.now t.type_refs.now t.types.now t.members.now t.fields.now t.arguments.now t.sets.now t.selections.now t.given.now t.fragments.now t.nodes.now t.literals.now t.variables.now t.answers.now) choices.now text.old errors.old plans.old spans.old hints.old path s plan group object rows result text.new errors.new plans.new spans.new hints.new }
 {
     let step = execute_field(
-        pool,
-        names,
-        type_refs,
-        types,
-        members,
-        fields,
-        arguments,
-        selections,
-        given,
-        nodes,
-        literals,
-        variables,
-        answers,
+        tables,
         text,
         errors,
         path,
@@ -418,30 +260,14 @@ fn enter_field(
         s,
     );
     go_on(
-        pool, names, type_refs, types, members, fields, arguments, sets, selections, given,
-        fragments, nodes, literals, variables, answers, choices, text, errors, plans, spans, hints,
-        path, plan, group, step, s,
+        tables, choices, text, errors, plans, spans, hints, path, plan, group, step, s,
     )
 }
 
 // ExecuteSelectionSet: the groups of a plan, in the order that the choices say. Each entry goes to its place among those that there are.
 #[cycle(complete_items_enter_field_execute_apart_execute_object_execute_selection_set_go_on)]
 pub fn execute_selection_set(
-    pool: &[u8],
-    names: &[u32],
-    type_refs: &[u32],
-    types: &[u32],
-    members: &[u32],
-    fields: &[u32],
-    arguments: &[u32],
-    sets: &[u32],
-    selections: &[u32],
-    given: &[u32],
-    fragments: &[u32],
-    nodes: &[u32],
-    literals: &[u32],
-    variables: &[u32],
-    answers: &[u32],
+    tables: &Tables,
     choices: &[u32],
     text: &mut [u8],
     errors: &mut [u32],
@@ -454,8 +280,8 @@ pub fn execute_selection_set(
     rows: Range,
     s: State,
 ) -> Done
-    requires { SetReady (asking pool.now names.now type_refs.now types.now members.now fields.now arguments.now sets.now selections.now given.now fragments.now nodes.now literals.now variables.now answers.now) plans.old spans.old hints.old path s plan object rows }
-    ensures { SetDone (asking pool.now names.now type_refs.now types.now members.now fields.now arguments.now sets.now selections.now given.now fragments.now nodes.now literals.now variables.now answers.now) choices.now text.old errors.old plans.old spans.old hints.old path s plan object rows result text.new errors.new plans.new spans.new hints.new }
+    requires { let t = tables.now in SetReady (asking t.pool.now t.names.now t.type_refs.now t.types.now t.members.now t.fields.now t.arguments.now t.sets.now t.selections.now t.given.now t.fragments.now t.nodes.now t.literals.now t.variables.now t.answers.now) plans.old spans.old hints.old path s plan object rows }
+    ensures { let t = tables.now in SetDone (asking t.pool.now t.names.now t.type_refs.now t.types.now t.members.now t.fields.now t.arguments.now t.sets.now t.selections.now t.given.now t.fragments.now t.nodes.now t.literals.now t.variables.now t.answers.now) choices.now text.old errors.old plans.old spans.old hints.old path s plan object rows result text.new errors.new plans.new spans.new hints.new }
 {
     let groups = group_count(plans, plan);
     let base = SPANS * path.count;
@@ -472,9 +298,8 @@ pub fn execute_selection_set(
             top: state.top,
         };
         let d = enter_field(
-            pool, names, type_refs, types, members, fields, arguments, sets, selections, given,
-            fragments, nodes, literals, variables, answers, choices, text, errors, plans, spans,
-            hints, path, plan, group, object, rows, next,
+            tables, choices, text, errors, plans, spans, hints, path, plan, group, object, rows,
+            next,
         );
         state = d.state;
         let what = d.what;

@@ -17,6 +17,7 @@ use rows::json::{
 };
 use rows::layout::Range;
 use rows::schema::{TypeKind, TypeRef, field_at, type_at, type_ref_at};
+use rows::tables::Tables;
 
 // An error and its place.
 #[derive(Clone, Copy)]
@@ -46,12 +47,12 @@ fn fail_at(literals: &[u32], error: FieldError, row: u32) -> Coercion
 }
 
 // Whether a variable's value is null where that may not be.
-pub fn null_against(type_refs: &[u32], nodes: &[u32], variables: &[u32], ty: u32, row: u32) -> bool
-    ensures { result ≡ null_against type_refs.now nodes.now variables.now ty row }
+pub fn null_against(tables: &Tables, ty: u32, row: u32) -> bool
+    ensures { let t = tables.now in result ≡ null_against t.type_refs.now t.nodes.now t.variables.now ty row }
 {
-    let variable = variable_at(variables, row);
-    match node_at(nodes, variable.node) {
-        Node::Null => is_non_null(type_refs, ty),
+    let variable = variable_at(tables.variables, row);
+    match node_at(tables.nodes, variable.node) {
+        Node::Null => is_non_null(tables.type_refs, ty),
         _ => false,
     }
 }
@@ -92,28 +93,20 @@ pub fn check_part_by_part(literals: &[u32], room: u32, row: u32) -> Coercion
 }
 
 // A variable inside a list or an object.
-fn coerce_variable(
-    type_refs: &[u32],
-    nodes: &[u32],
-    literals: &[u32],
-    variables: &[u32],
-    ty: u32,
-    row: u32,
-    name: u32,
-) -> Coercion
-    requires { Valuable nodes.now variables.now }
-    ensures { ChecksInner type_refs.now nodes.now literals.now variables.now ty row name result }
+fn coerce_variable(tables: &Tables, ty: u32, row: u32, name: u32) -> Coercion
+    requires { let t = tables.now in Valuable t.nodes.now t.variables.now }
+    ensures { let t = tables.now in ChecksInner t.type_refs.now t.nodes.now t.literals.now t.variables.now ty row name result }
 {
-    match variable_named(variables, name) {
+    match variable_named(tables.variables, name) {
         None => {
-            if is_non_null(type_refs, ty) {
-                return fail_at(literals, FieldError::MissingVariable, row);
+            if is_non_null(tables.type_refs, ty) {
+                return fail_at(tables.literals, FieldError::MissingVariable, row);
             }
             Coercion::Value
         }
         Some(variable) => {
-            if null_against(type_refs, nodes, variables, ty, variable) {
-                return fail_at(literals, FieldError::NullVariable, row);
+            if null_against(tables, ty, variable) {
+                return fail_at(tables.literals, FieldError::NullVariable, row);
             }
             Coercion::Value
         }
@@ -163,20 +156,10 @@ pub fn items_of(row: u32, shape: Shape) -> Range
 
 // The items of a list at the type of an item.
 #[cycle(coerce_argument_value_coerce_items_coerce_named_coerce_shape_input_field_input_fields_input_object)]
-fn coerce_items(
-    type_refs: &[u32],
-    types: &[u32],
-    fields: &[u32],
-    nodes: &[u32],
-    literals: &[u32],
-    variables: &[u32],
-    room: u32,
-    inner: u32,
-    rows: Range,
-) -> Coercion
-    requires coercible { Coercible types.now nodes.now literals.now variables.now }
+fn coerce_items(tables: &Tables, room: u32, inner: u32, rows: Range) -> Coercion
+    requires coercible { let t = tables.now in Coercible t.types.now t.nodes.now t.literals.now t.variables.now }
     requires count_bound { rows.first + rows.count ≤ 4294967296 }
-    ensures { Checks (of_items type_refs.now types.now fields.now nodes.now literals.now variables.now room inner (rows_in rows)) result }
+    ensures { let t = tables.now in Checks (of_items t.type_refs.now t.types.now t.fields.now t.nodes.now t.literals.now t.variables.now room inner (rows_in rows)) result }
 {
     if room == 0 {
         return Coercion::TooFar;
@@ -184,17 +167,7 @@ fn coerce_items(
     let first = rows.first;
     let count = rows.count;
     for i in 0..count {
-        let item = coerce_argument_value(
-            type_refs,
-            types,
-            fields,
-            nodes,
-            literals,
-            variables,
-            room - 1,
-            inner,
-            first + i,
-        );
+        let item = coerce_argument_value(tables, room - 1, inner, first + i);
         let Coercion::Value = item else {
             return item;
         };
@@ -203,45 +176,32 @@ fn coerce_items(
 }
 
 // The literal that an object literal gives for a field, if it gives one.
-pub fn given_for(fields: &[u32], literals: &[u32], given: Range, field: u32) -> Option<u32>
+pub fn given_for(tables: &Tables, given: Range, field: u32) -> Option<u32>
     requires { given.first + given.count ≤ most_literals }
-    ensures { result ≡ given_for fields.now literals.now (rows_in given) field }
+    ensures { let t = tables.now in result ≡ given_for t.fields.now t.literals.now (rows_in given) field }
 {
-    let def = field_at(fields, field);
-    find_word(literals, LITERAL_WIDTH, LITERAL_KEY, given, def.name)
+    let def = field_at(tables.fields, field);
+    find_word(tables.literals, LITERAL_WIDTH, LITERAL_KEY, given, def.name)
 }
 
 // An input field: as it is given, by its default, or missing. `row` is the whole object literal, and `room` is what is left inside it.
 #[cycle(coerce_argument_value_coerce_items_coerce_named_coerce_shape_input_field_input_fields_input_object)]
-fn input_field(
-    type_refs: &[u32],
-    types: &[u32],
-    fields: &[u32],
-    nodes: &[u32],
-    literals: &[u32],
-    variables: &[u32],
-    room: u32,
-    row: u32,
-    given: Range,
-    field: u32,
-) -> Coercion
-    requires coercible { Coercible types.now nodes.now literals.now variables.now }
+fn input_field(tables: &Tables, room: u32, row: u32, given: Range, field: u32) -> Coercion
+    requires coercible { let t = tables.now in Coercible t.types.now t.nodes.now t.literals.now t.variables.now }
     requires count_bound { given.first + given.count ≤ most_literals }
-    ensures { Checks (of_field type_refs.now types.now fields.now nodes.now literals.now variables.now room row (rows_in given) field) result }
+    ensures { let t = tables.now in Checks (of_field t.type_refs.now t.types.now t.fields.now t.nodes.now t.literals.now t.variables.now room row (rows_in given) field) result }
 {
-    let def = field_at(fields, field);
+    let def = field_at(tables.fields, field);
     let ty = def.ty;
-    if let Some(literal) = given_for(fields, literals, given, field) {
-        return coerce_argument_value(
-            type_refs, types, fields, nodes, literals, variables, room, ty, literal,
-        );
+    if let Some(literal) = given_for(tables, given, field) {
+        return coerce_argument_value(tables, room, ty, literal);
     }
     let default = def.default;
     match default {
-        Some(value) => check_part_by_part(literals, room, value),
+        Some(value) => check_part_by_part(tables.literals, room, value),
         None => {
-            if is_non_null(type_refs, ty) {
-                return fail_at(literals, FieldError::MissingInputField, row);
+            if is_non_null(tables.type_refs, ty) {
+                return fail_at(tables.literals, FieldError::MissingInputField, row);
             }
             Coercion::Value
         }
@@ -250,22 +210,11 @@ fn input_field(
 
 // The fields of an input object type, in the type's order.
 #[cycle(coerce_argument_value_coerce_items_coerce_named_coerce_shape_input_field_input_fields_input_object)]
-fn input_fields(
-    type_refs: &[u32],
-    types: &[u32],
-    fields: &[u32],
-    nodes: &[u32],
-    literals: &[u32],
-    variables: &[u32],
-    room: u32,
-    row: u32,
-    given: Range,
-    declared: Range,
-) -> Coercion
-    requires coercible { Coercible types.now nodes.now literals.now variables.now }
+fn input_fields(tables: &Tables, room: u32, row: u32, given: Range, declared: Range) -> Coercion
+    requires coercible { let t = tables.now in Coercible t.types.now t.nodes.now t.literals.now t.variables.now }
     requires count_bound { given.first + given.count ≤ most_literals }
     requires count_bound_2 { declared.first + declared.count ≤ most_fields }
-    ensures { Checks (of_fields type_refs.now types.now fields.now nodes.now literals.now variables.now room row (rows_in given) (rows_in declared)) result }
+    ensures { let t = tables.now in Checks (of_fields t.type_refs.now t.types.now t.fields.now t.nodes.now t.literals.now t.variables.now room row (rows_in given) (rows_in declared)) result }
 {
     if room == 0 {
         return Coercion::TooFar;
@@ -273,18 +222,7 @@ fn input_fields(
     let first = declared.first;
     let count = declared.count;
     for i in 0..count {
-        let field = input_field(
-            type_refs,
-            types,
-            fields,
-            nodes,
-            literals,
-            variables,
-            room - 1,
-            row,
-            given,
-            first + i,
-        );
+        let field = input_field(tables, room - 1, row, given, first + i);
         let Coercion::Value = field else {
             return field;
         };
@@ -293,16 +231,16 @@ fn input_fields(
 }
 
 // Whether an object literal has a key that the type has no field for.
-fn has_unknown_key(types: &[u32], fields: &[u32], literals: &[u32], ty: u32, given: Range) -> bool
-    requires ty_bound { (type_at types.now ty).fields.first + (type_at types.now ty).fields.count ≤ most_fields }
+fn has_unknown_key(tables: &Tables, ty: u32, given: Range) -> bool
+    requires ty_bound { let t = tables.now in (type_at t.types.now ty).fields.first + (type_at t.types.now ty).fields.count ≤ most_fields }
     requires count_bound { given.first + given.count ≤ most_literals }
-    ensures { result ≡ is_found (unknown_key types.now fields.now literals.now ty (rows_in given)) }
+    ensures { let t = tables.now in result ≡ is_found (unknown_key t.types.now t.fields.now t.literals.now ty (rows_in given)) }
 {
     let first = given.first;
     let count = given.count;
     for i in 0..count {
-        let key = literal_key(literals, first + i);
-        let Some(_) = field_named(types, fields, ty, key) else {
+        let key = literal_key(tables.literals, first + i);
+        let Some(_) = field_named(tables, ty, key) else {
             return true;
         };
     }
@@ -311,130 +249,72 @@ fn has_unknown_key(types: &[u32], fields: &[u32], literals: &[u32], ty: u32, giv
 
 // An object literal at an input object type. An unknown key is found before anything about the values.
 #[cycle(coerce_argument_value_coerce_items_coerce_named_coerce_shape_input_field_input_fields_input_object)]
-fn input_object(
-    type_refs: &[u32],
-    types: &[u32],
-    fields: &[u32],
-    nodes: &[u32],
-    literals: &[u32],
-    variables: &[u32],
-    room: u32,
-    ty: u32,
-    row: u32,
-    shape: Shape,
-) -> Coercion
-    requires coercible { Coercible types.now nodes.now literals.now variables.now }
-    requires form_at { FormAt literals.now row (Form.Shaped shape) }
-    ensures { Checks (of_object type_refs.now types.now fields.now nodes.now literals.now variables.now room ty row shape) result }
+fn input_object(tables: &Tables, room: u32, ty: u32, row: u32, shape: Shape) -> Coercion
+    requires coercible { let t = tables.now in Coercible t.types.now t.nodes.now t.literals.now t.variables.now }
+    requires form_at { let t = tables.now in FormAt t.literals.now row (Form.Shaped shape) }
+    ensures { let t = tables.now in Checks (of_object t.type_refs.now t.types.now t.fields.now t.nodes.now t.literals.now t.variables.now room ty row shape) result }
 {
     let Shape::Keyed(given) = shape else {
-        return fail_at(literals, FieldError::CannotCoerce, row);
+        return fail_at(tables.literals, FieldError::CannotCoerce, row);
     };
-    if has_unknown_key(types, fields, literals, ty, given) {
-        return fail_at(literals, FieldError::UnknownKey, row);
+    if has_unknown_key(tables, ty, given) {
+        return fail_at(tables.literals, FieldError::UnknownKey, row);
     }
-    let def = type_at(types, ty);
+    let def = type_at(tables.types, ty);
     let declared = def.fields;
-    input_fields(
-        type_refs, types, fields, nodes, literals, variables, room, row, given, declared,
-    )
+    input_fields(tables, room, row, given, declared)
 }
 
 // At a type that is no input object a literal converts part by part.
 #[cycle(coerce_argument_value_coerce_items_coerce_named_coerce_shape_input_field_input_fields_input_object)]
-fn coerce_named(
-    type_refs: &[u32],
-    types: &[u32],
-    fields: &[u32],
-    nodes: &[u32],
-    literals: &[u32],
-    variables: &[u32],
-    room: u32,
-    row: u32,
-    shape: Shape,
-    name: u32,
-) -> Coercion
-    requires coercible { Coercible types.now nodes.now literals.now variables.now }
-    requires form_at { FormAt literals.now row (Form.Shaped shape) }
-    ensures { Checks (of_named type_refs.now types.now fields.now nodes.now literals.now variables.now room row shape name) result }
+fn coerce_named(tables: &Tables, room: u32, row: u32, shape: Shape, name: u32) -> Coercion
+    requires coercible { let t = tables.now in Coercible t.types.now t.nodes.now t.literals.now t.variables.now }
+    requires form_at { let t = tables.now in FormAt t.literals.now row (Form.Shaped shape) }
+    ensures { let t = tables.now in Checks (of_named t.type_refs.now t.types.now t.fields.now t.nodes.now t.literals.now t.variables.now room row shape name) result }
 {
-    let Some(ty) = type_named(types, name) else {
-        return fail_at(literals, FieldError::UndefinedInputType, row);
+    let Some(ty) = type_named(tables.types, name) else {
+        return fail_at(tables.literals, FieldError::UndefinedInputType, row);
     };
-    let def = type_at(types, ty);
+    let def = type_at(tables.types, ty);
     let kind = def.kind;
     let TypeKind::InputObject = kind else {
-        return check_part_by_part(literals, room, row);
+        return check_part_by_part(tables.literals, room, row);
     };
-    input_object(
-        type_refs, types, fields, nodes, literals, variables, room, ty, row, shape,
-    )
+    input_object(tables, room, ty, row, shape)
 }
 
 #[cycle(coerce_argument_value_coerce_items_coerce_named_coerce_shape_input_field_input_fields_input_object)]
-fn coerce_shape(
-    type_refs: &[u32],
-    types: &[u32],
-    fields: &[u32],
-    nodes: &[u32],
-    literals: &[u32],
-    variables: &[u32],
-    room: u32,
-    ty: u32,
-    row: u32,
-    shape: Shape,
-) -> Coercion
-    requires coercible { Coercible types.now nodes.now literals.now variables.now }
-    requires form_at { FormAt literals.now row (Form.Shaped shape) }
-    ensures { Checks (of_shape type_refs.now types.now fields.now nodes.now literals.now variables.now room ty row shape) result }
+fn coerce_shape(tables: &Tables, room: u32, ty: u32, row: u32, shape: Shape) -> Coercion
+    requires coercible { let t = tables.now in Coercible t.types.now t.nodes.now t.literals.now t.variables.now }
+    requires form_at { let t = tables.now in FormAt t.literals.now row (Form.Shaped shape) }
+    ensures { let t = tables.now in Checks (of_shape t.type_refs.now t.types.now t.fields.now t.nodes.now t.literals.now t.variables.now room ty row shape) result }
 {
-    match type_ref_at(type_refs, ty) {
-        TypeRef::Named { name, nullable: _ } => coerce_named(
-            type_refs, types, fields, nodes, literals, variables, room, row, shape, name,
-        ),
+    match type_ref_at(tables.type_refs, ty) {
+        TypeRef::Named { name, nullable: _ } => coerce_named(tables, room, row, shape, name),
         TypeRef::ListOf { inner, nullable: _ } => coerce_items(
-            type_refs,
-            types,
-            fields,
-            nodes,
-            literals,
-            variables,
+            tables,
             room,
             inner,
             items_of(row, shape),
         ),
-        TypeRef::Unknown => fail_at(literals, FieldError::UndefinedInputType, row),
+        TypeRef::Unknown => fail_at(tables.literals, FieldError::UndefinedInputType, row),
     }
 }
 
 // A literal (a row) at a type reference (a row).
 #[cycle(coerce_argument_value_coerce_items_coerce_named_coerce_shape_input_field_input_fields_input_object)]
-pub fn coerce_argument_value(
-    type_refs: &[u32],
-    types: &[u32],
-    fields: &[u32],
-    nodes: &[u32],
-    literals: &[u32],
-    variables: &[u32],
-    room: u32,
-    ty: u32,
-    row: u32,
-) -> Coercion
-    requires { Coercible types.now nodes.now literals.now variables.now }
-    ensures { Checks (of_value type_refs.now types.now fields.now nodes.now literals.now variables.now room ty row) result }
+pub fn coerce_argument_value(tables: &Tables, room: u32, ty: u32, row: u32) -> Coercion
+    requires { let t = tables.now in Coercible t.types.now t.nodes.now t.literals.now t.variables.now }
+    ensures { let t = tables.now in Checks (of_value t.type_refs.now t.types.now t.fields.now t.nodes.now t.literals.now t.variables.now room ty row) result }
 {
-    match literal_form(literals, row) {
+    match literal_form(tables.literals, row) {
         Form::Null => {
-            if is_non_null(type_refs, ty) {
-                return fail_at(literals, FieldError::InnerNull, row);
+            if is_non_null(tables.type_refs, ty) {
+                return fail_at(tables.literals, FieldError::InnerNull, row);
             }
             Coercion::Value
         }
-        Form::Variable(name) => coerce_variable(
-            type_refs, nodes, literals, variables, ty, row, name,
-        ),
-        Form::Shaped(shape) => coerce_shape(
-            type_refs, types, fields, nodes, literals, variables, room, ty, row, shape,
-        ),
+        Form::Variable(name) => coerce_variable(tables, ty, row, name),
+        Form::Shaped(shape) => coerce_shape(tables, room, ty, row, shape),
     }
 }

@@ -9,6 +9,7 @@ use codes::outcome::Outcome;
 use lookup::named::fragment_named;
 use rows::document::{FieldSelection, Selected, fragment_at, selection_at, set_at};
 use rows::layout::both;
+use rows::tables::Tables;
 use tables::check::{LAWFUL, table_check};
 
 const MAX_LISTS_DEPTH: u32 = 3;
@@ -64,34 +65,24 @@ fn is_list(name: u32) -> bool
 // more than its rise.
 #[cycle(check_child_set_check_field_check_selection_check_selection_set_check_spread)]
 fn check_selection_set(
-    sets: &[u32],
-    selections: &[u32],
-    fragments: &[u32],
+    tables: &Tables,
     marks: &mut [u64],
     room: u32,
     set: u32,
     depth_so_far: u32,
 ) -> Checked
-    requires { Walkable sets.now fragments.now marks.old depth_so_far }
-    ensures { ChecksSet sets.now selections.now fragments.now marks.old room set depth_so_far result marks.new }
+    requires { let t = tables.now in Walkable t.sets.now t.fragments.now marks.old depth_so_far }
+    ensures { let t = tables.now in ChecksSet t.sets.now t.selections.now t.fragments.now marks.old room set depth_so_far result marks.new }
 {
     if room == 0 {
         return Checked::TooManySets;
     }
-    let range = set_at(sets, set);
+    let range = set_at(tables.sets, set);
     let first = range.first;
     let count = range.count;
     let mut max_depth = depth_so_far;
     for i in 0..count {
-        let checked = check_selection(
-            sets,
-            selections,
-            fragments,
-            marks,
-            room - 1,
-            first + i,
-            depth_so_far,
-        );
+        let checked = check_selection(tables, marks, room - 1, first + i, depth_so_far);
         let Checked::Depth(depth) = checked else {
             return checked;
         };
@@ -102,45 +93,23 @@ fn check_selection_set(
 
 #[cycle(check_child_set_check_field_check_selection_check_selection_set_check_spread)]
 fn check_selection(
-    sets: &[u32],
-    selections: &[u32],
-    fragments: &[u32],
+    tables: &Tables,
     marks: &mut [u64],
     room: u32,
     row: u32,
     depth_so_far: u32,
 ) -> Checked
-    requires { Walkable sets.now fragments.now marks.old depth_so_far }
-    ensures { ChecksSelection sets.now selections.now fragments.now marks.old room row depth_so_far result marks.new }
+    requires { let t = tables.now in Walkable t.sets.now t.fragments.now marks.old depth_so_far }
+    ensures { let t = tables.now in ChecksSelection t.sets.now t.selections.now t.fragments.now marks.old room row depth_so_far result marks.new }
 {
-    let selection = selection_at(selections, row);
+    let selection = selection_at(tables.selections, row);
     let place = selection.place;
     let what = selection.what;
     match what {
-        Selected::Field(field) => check_field(
-            sets,
-            selections,
-            fragments,
-            marks,
-            room,
-            place,
-            field,
-            depth_so_far,
-        ),
-        Selected::Spread { name } => check_spread(
-            sets,
-            selections,
-            fragments,
-            marks,
-            room,
-            place,
-            name,
-            depth_so_far,
-        ),
+        Selected::Field(field) => check_field(tables, marks, room, place, field, depth_so_far),
+        Selected::Spread { name } => check_spread(tables, marks, room, place, name, depth_so_far),
         Selected::Inline { condition: _, set } => check_selection_set(
-            sets,
-            selections,
-            fragments,
+            tables,
             marks,
             room,
             set,
@@ -152,72 +121,58 @@ fn check_selection(
 
 #[cycle(check_child_set_check_field_check_selection_check_selection_set_check_spread)]
 fn check_field(
-    sets: &[u32],
-    selections: &[u32],
-    fragments: &[u32],
+    tables: &Tables,
     marks: &mut [u64],
     room: u32,
     place: u32,
     field: FieldSelection,
     depth_so_far: u32,
 ) -> Checked
-    requires { Walkable sets.now fragments.now marks.old depth_so_far }
-    ensures { ChecksField sets.now selections.now fragments.now marks.old room place field depth_so_far result marks.new }
+    requires { let t = tables.now in Walkable t.sets.now t.fragments.now marks.old depth_so_far }
+    ensures { let t = tables.now in ChecksField t.sets.now t.selections.now t.fragments.now marks.old room place field depth_so_far result marks.new }
 {
     if !is_list(field.name) {
-        return check_child_set(
-            sets,
-            selections,
-            fragments,
-            marks,
-            room,
-            field,
-            depth_so_far,
-        );
+        return check_child_set(tables, marks, room, field, depth_so_far);
     }
     let depth = depth_so_far + 1;
     if depth >= MAX_LISTS_DEPTH {
         return Checked::TooDeep(place);
     }
-    check_child_set(sets, selections, fragments, marks, room, field, depth)
+    check_child_set(tables, marks, room, field, depth)
 }
 
 // The set of a field, at the depth within it; a field that has none opens none.
 #[cycle(check_child_set_check_field_check_selection_check_selection_set_check_spread)]
 fn check_child_set(
-    sets: &[u32],
-    selections: &[u32],
-    fragments: &[u32],
+    tables: &Tables,
     marks: &mut [u64],
     room: u32,
     field: FieldSelection,
     depth: u32,
 ) -> Checked
-    requires { Walkable sets.now fragments.now marks.old depth }
-    ensures { ChecksChild sets.now selections.now fragments.now marks.old room field depth result marks.new }
+    requires { let t = tables.now in Walkable t.sets.now t.fragments.now marks.old depth }
+    ensures { let t = tables.now in ChecksChild t.sets.now t.selections.now t.fragments.now marks.old room field depth result marks.new }
 {
     let set = field.set;
     if set == 0 {
         return Checked::Depth(depth);
     }
-    check_selection_set(sets, selections, fragments, marks, room, set, depth)
+    check_selection_set(tables, marks, room, set, depth)
 }
 
 #[cycle(check_child_set_check_field_check_selection_check_selection_set_check_spread)]
 fn check_spread(
-    sets: &[u32],
-    selections: &[u32],
-    fragments: &[u32],
+    tables: &Tables,
     marks: &mut [u64],
     room: u32,
     place: u32,
     name: u32,
     depth_so_far: u32,
 ) -> Checked
-    requires { Walkable sets.now fragments.now marks.old depth_so_far }
-    ensures { ChecksSpread sets.now selections.now fragments.now marks.old room place name depth_so_far result marks.new }
+    requires { let t = tables.now in Walkable t.sets.now t.fragments.now marks.old depth_so_far }
+    ensures { let t = tables.now in ChecksSpread t.sets.now t.selections.now t.fragments.now marks.old room place name depth_so_far result marks.new }
 {
-    let found = fragment_named(fragments, name);
+    let found = fragment_named(tables.fragments, name);
     let Some(row) = found else {
         return Checked::Depth(depth_so_far);
     };
@@ -230,9 +185,9 @@ fn check_spread(
         }
         return Checked::Depth(depth_so_far);
     }
-    let fragment = fragment_at(fragments, row);
+    let fragment = fragment_at(tables.fragments, row);
     let set = fragment.set;
-    let checked = check_selection_set(sets, selections, fragments, marks, room, set, depth_so_far);
+    let checked = check_selection_set(tables, marks, room, set, depth_so_far);
     let Checked::Depth(depth) = checked else {
         return checked;
     };
@@ -273,38 +228,18 @@ fn answer(checked: Checked) -> DepthAnswer
 }
 
 // The depth of lawful tables' sets, from the operation's on.
-fn depth_of_operation(sets: &[u32], selections: &[u32], fragments: &[u32]) -> DepthAnswer
-    requires { Walkable sets.now fragments.now (replicate 64 0) 0 }
-    ensures { Answers result (answered (check_set sets.now selections.now fragments.now 32 0 0 [])) }
+fn depth_of_operation(tables: &Tables) -> DepthAnswer
+    requires { let t = tables.now in Walkable t.sets.now t.fragments.now (replicate 64 0) 0 }
+    ensures { let t = tables.now in Answers result (answered (check_set t.sets.now t.selections.now t.fragments.now 32 0 0 [])) }
 {
     let mut marks = [0u64; 64];
-    answer(check_selection_set(sets, selections, fragments, &mut marks, MAX_OPEN_SETS, 0, 0))
+    answer(check_selection_set(tables, &mut marks, MAX_OPEN_SETS, 0, 0))
 }
 
-pub fn depth_check(
-    pool: &[u8],
-    names: &[u32],
-    type_refs: &[u32],
-    types: &[u32],
-    members: &[u32],
-    fields: &[u32],
-    arguments: &[u32],
-    sets: &[u32],
-    selections: &[u32],
-    given: &[u32],
-    fragments: &[u32],
-    nodes: &[u32],
-    literals: &[u32],
-    variables: &[u32],
-    answers: &[u32],
-    root: u32,
-) -> DepthAnswer
-    ensures { Answers result (depth_report (tables pool.now names.now type_refs.now types.now members.now fields.now arguments.now sets.now selections.now given.now fragments.now nodes.now literals.now variables.now answers.now root)) }
+pub fn depth_check(tables: &Tables) -> DepthAnswer
+    ensures { let t = tables.now in Answers result (depth_report (tables t.pool.now t.names.now t.type_refs.now t.types.now t.members.now t.fields.now t.arguments.now t.sets.now t.selections.now t.given.now t.fragments.now t.nodes.now t.literals.now t.variables.now t.answers.now t.root)) }
 {
-    let lawful = table_check(
-        pool, names, type_refs, types, members, fields, arguments, sets, selections, given,
-        fragments, nodes, literals, variables, answers, root,
-    );
+    let lawful = table_check(tables);
     if lawful != LAWFUL {
         let outcome = Outcome::Unlawful;
         return DepthAnswer {
@@ -313,5 +248,5 @@ pub fn depth_check(
             place: 0,
         };
     }
-    depth_of_operation(sets, selections, fragments)
+    depth_of_operation(tables)
 }

@@ -18,6 +18,7 @@ use rows::json::{Literal, Node, literal_at, node_at};
 use rows::names::name_text;
 use rows::schema::{TypeKind, TypeRef, type_at, type_ref_at};
 use rows::strings::text_of;
+use rows::tables::Tables;
 use tokens::json::put_string;
 use values::node::{Put, put_node};
 use values::sort::{Sort, literal_sort, sort_of};
@@ -32,16 +33,16 @@ pub enum Leaf {
 }
 
 // Whether a literal that is no null becomes a container at a type: it is wrapped there, or is an input object.
-fn is_container_type(type_refs: &[u32], types: &[u32], ty: u32) -> bool
-    ensures { result ≡ is_container types.now (type_ref_at type_refs.now ty) }
+fn is_container_type(tables: &Tables, ty: u32) -> bool
+    ensures { let t = tables.now in result ≡ is_container t.types.now (type_ref_at t.type_refs.now ty) }
 {
-    let TypeRef::Named { name, nullable: _ } = type_ref_at(type_refs, ty) else {
+    let TypeRef::Named { name, nullable: _ } = type_ref_at(tables.type_refs, ty) else {
         return true;
     };
-    let Some(row) = type_named(types, name) else {
+    let Some(row) = type_named(tables.types, name) else {
         return false;
     };
-    let def = type_at(types, row);
+    let def = type_at(tables.types, row);
     let kind = def.kind;
     let TypeKind::InputObject = kind else {
         return false;
@@ -50,99 +51,74 @@ fn is_container_type(type_refs: &[u32], types: &[u32], ty: u32) -> bool
 }
 
 // The sort of a literal at a type. It is asked for its form first: a literal of no known kind has the sort of null, and is wrapped all the same.
-fn coerced_sort(type_refs: &[u32], types: &[u32], literals: &[u32], ty: u32, row: u32) -> Sort
-    ensures { result ≡ said (coerced_sort type_refs.now types.now literals.now ty row) }
+fn coerced_sort(tables: &Tables, ty: u32, row: u32) -> Sort
+    ensures { let t = tables.now in result ≡ said (coerced_sort t.type_refs.now t.types.now t.literals.now ty row) }
 {
-    if let Form::Null = literal_form(literals, row) {
+    if let Form::Null = literal_form(tables.literals, row) {
         return Sort::Null;
     }
-    if is_container_type(type_refs, types, ty) {
+    if is_container_type(tables, ty) {
         return Sort::Container;
     }
-    literal_sort(literals, row)
+    literal_sort(tables.literals, row)
 }
 
-pub fn leaf_sort(
-    type_refs: &[u32],
-    types: &[u32],
-    nodes: &[u32],
-    literals: &[u32],
-    leaf: Leaf,
-) -> Sort
-    ensures { SortsLeaf type_refs.now types.now nodes.now literals.now leaf result }
+pub fn leaf_sort(tables: &Tables, leaf: Leaf) -> Sort
+    ensures { let t = tables.now in SortsLeaf t.type_refs.now t.types.now t.nodes.now t.literals.now leaf result }
 {
     match leaf {
-        Leaf::Node(row) => sort_of(nodes, row),
+        Leaf::Node(row) => sort_of(tables.nodes, row),
         Leaf::Name(_) => Sort::String,
-        Leaf::Literal { ty, row } => coerced_sort(type_refs, types, literals, ty, row),
-        Leaf::Default(row) => literal_sort(literals, row),
+        Leaf::Literal { ty, row } => coerced_sort(tables, ty, row),
+        Leaf::Default(row) => literal_sort(tables.literals, row),
     }
 }
 
-fn literal_string<'a>(pool: &'a [u8], names: &[u32], literals: &[u32], row: u32) -> &'a [u8]
-    ensures { result.now ≡ bytes_of (string_of (plain_literal pool.now names.now (literal_at literals.now row))) }
+fn literal_string<'a>(tables: &Tables<'a>, row: u32) -> &'a [u8]
+    ensures { let t = tables.now in result.now ≡ bytes_of (string_of (plain_literal t.pool.now t.names.now (literal_at t.literals.now row))) }
 {
-    match literal_at(literals, row) {
-        Literal::String(string) => text_of(pool, string),
-        Literal::Enum(name) => name_text(pool, names, name),
-        _ => &pool[0..0],
+    match literal_at(tables.literals, row) {
+        Literal::String(string) => text_of(tables.pool, string),
+        Literal::Enum(name) => name_text(tables.pool, tables.names, name),
+        _ => &tables.pool[0..0],
     }
 }
 
-fn node_string<'a>(pool: &'a [u8], nodes: &[u32], row: u32) -> &'a [u8]
-    ensures { result.now ≡ bytes_of (string_of (plain_value pool.now (node_at nodes.now row))) }
+fn node_string<'a>(tables: &Tables<'a>, row: u32) -> &'a [u8]
+    ensures { let t = tables.now in result.now ≡ bytes_of (string_of (plain_value t.pool.now (node_at t.nodes.now row))) }
 {
-    match node_at(nodes, row) {
-        Node::String(string) => text_of(pool, string),
-        _ => &pool[0..0],
+    match node_at(tables.nodes, row) {
+        Node::String(string) => text_of(tables.pool, string),
+        _ => &tables.pool[0..0],
     }
 }
 
 // The bytes of a leaf that is a string.
-pub fn leaf_string<'a>(
-    pool: &'a [u8],
-    names: &[u32],
-    nodes: &[u32],
-    literals: &[u32],
-    leaf: Leaf,
-) -> &'a [u8]
-    ensures { SpellsLeaf pool.now names.now nodes.now literals.now leaf result.now }
+pub fn leaf_string<'a>(tables: &Tables<'a>, leaf: Leaf) -> &'a [u8]
+    ensures { let t = tables.now in SpellsLeaf t.pool.now t.names.now t.nodes.now t.literals.now leaf result.now }
 {
     match leaf {
-        Leaf::Node(row) => node_string(pool, nodes, row),
-        Leaf::Name(name) => name_text(pool, names, name),
-        Leaf::Literal { ty: _, row } => literal_string(pool, names, literals, row),
-        Leaf::Default(row) => literal_string(pool, names, literals, row),
+        Leaf::Node(row) => node_string(tables, row),
+        Leaf::Name(name) => name_text(tables.pool, tables.names, name),
+        Leaf::Literal { ty: _, row } => literal_string(tables, row),
+        Leaf::Default(row) => literal_string(tables, row),
     }
 }
 
 // The text of a leaf; or too many containers are open in it.
-pub fn put_leaf(
-    pool: &[u8],
-    names: &[u32],
-    type_refs: &[u32],
-    types: &[u32],
-    fields: &[u32],
-    nodes: &[u32],
-    literals: &[u32],
-    variables: &[u32],
-    text: &mut [u8],
-    at: usize,
-    leaf: Leaf,
-) -> Put
-    requires coercible { Coercible types.now nodes.now literals.now variables.now }
-    requires parted { Parted nodes.now }
-    ensures { PutsLeaf pool.now names.now type_refs.now types.now fields.now nodes.now literals.now variables.now leaf text.old at result text.new }
+pub fn put_leaf(tables: &Tables, text: &mut [u8], at: usize, leaf: Leaf) -> Put
+    requires coercible { let t = tables.now in Coercible t.types.now t.nodes.now t.literals.now t.variables.now }
+    requires parted { let t = tables.now in Parted t.nodes.now }
+    ensures { let t = tables.now in PutsLeaf t.pool.now t.names.now t.type_refs.now t.types.now t.fields.now t.nodes.now t.literals.now t.variables.now leaf text.old at result text.new }
 {
     match leaf {
-        Leaf::Node(row) => put_node(pool, nodes, text, at, MOST_OPEN, row),
-        Leaf::Name(name) => Put::At(put_string(text, at, name_text(pool, names, name))),
-        Leaf::Literal { ty, row } => put_coerced(
-            pool, names, type_refs, types, fields, nodes, literals, variables, text, at, MOST_OPEN,
-            ty, row,
-        ),
-        Leaf::Default(row) => {
-            put_checked_literal(pool, names, literals, text, at, MOST_OPEN, row)
-        }
+        Leaf::Node(row) => put_node(tables, text, at, MOST_OPEN, row),
+        Leaf::Name(name) => Put::At(put_string(
+            text,
+            at,
+            name_text(tables.pool, tables.names, name),
+        )),
+        Leaf::Literal { ty, row } => put_coerced(tables, text, at, MOST_OPEN, ty, row),
+        Leaf::Default(row) => { put_checked_literal(tables, text, at, MOST_OPEN, row) }
     }
 }

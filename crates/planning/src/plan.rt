@@ -9,6 +9,7 @@ use crate::layout::{
     HEAD, HEAD_FIELDS, HEAD_GROUP, HEAD_GROUPS, HEAD_PLAN, HEAD_TYPE, MOST_PLAN_ROWS, WIDTH, word,
 };
 use collecting::collect::Collecting;
+use rows::tables::Tables;
 
 // A plan and the rows that stand; or collecting stops; or there is no room for a plan.
 #[derive(Clone, Copy)]
@@ -40,10 +41,7 @@ fn put_head(
 
 // A plan of the fields in the list, put at the row `at`; `by` is the first word of its head.
 fn put_plan(
-    type_refs: &[u32],
-    types: &[u32],
-    fields: &[u32],
-    selections: &[u32],
+    tables: &Tables,
     plans: &mut [u16],
     list: &[u16],
     count: usize,
@@ -53,23 +51,12 @@ fn put_plan(
     group: usize,
     object: u32,
 ) -> Planned
-    requires { Puttable type_refs.now types.now fields.now selections.now list.now count at plan group plans.old }
-    ensures { PutPlan type_refs.now types.now fields.now selections.now list.now count at by plan group object plans.old result plans.new }
+    requires { let t = tables.now in Puttable t.type_refs.now t.types.now t.fields.now t.selections.now list.now count at plan group plans.old }
+    ensures { let t = tables.now in PutPlan t.type_refs.now t.types.now t.fields.now t.selections.now list.now count at by plan group object plans.old result plans.new }
 {
     let mut owners = [0u16; 128];
     let first = at + 1;
-    let groups = put_groups(
-        type_refs,
-        types,
-        fields,
-        selections,
-        plans,
-        list,
-        &mut owners,
-        first,
-        count,
-        object,
-    );
+    let groups = put_groups(tables, plans, list, &mut owners, first, count, object);
     put_head(plans, at, by, groups, count, plan, group);
     if groups == count {
         return Planned::At {
@@ -85,22 +72,11 @@ fn put_plan(
 }
 
 // The plan of a set by itself, at the beginning of a store: the operation's, or one that found no room.
-fn plan_set(
-    type_refs: &[u32],
-    types: &[u32],
-    fields: &[u32],
-    selections: &[u32],
-    plans: &mut [u16],
-    list: &[u16],
-    count: usize,
-    object: u32,
-) -> Planned
-    requires { Puttable type_refs.now types.now fields.now selections.now list.now count 0 0 0 plans.old }
-    ensures { PutPlan type_refs.now types.now fields.now selections.now list.now count 0 0 0 0 object plans.old result plans.new }
+fn plan_set(tables: &Tables, plans: &mut [u16], list: &[u16], count: usize, object: u32) -> Planned
+    requires { let t = tables.now in Puttable t.type_refs.now t.types.now t.fields.now t.selections.now list.now count 0 0 0 plans.old }
+    ensures { let t = tables.now in PutPlan t.type_refs.now t.types.now t.fields.now t.selections.now list.now count 0 0 0 0 object plans.old result plans.new }
 {
-    put_plan(
-        type_refs, types, fields, selections, plans, list, count, 0, 0, 0, 0, object,
-    )
+    put_plan(tables, plans, list, count, 0, 0, 0, 0, object)
 }
 
 // Where to look for the plan of a group and a type; any place would do.
@@ -133,37 +109,23 @@ pub fn is_plan_for(
 }
 
 fn make_plan(
-    type_refs: &[u32],
-    types: &[u32],
-    members: &[u32],
-    fields: &[u32],
-    sets: &[u32],
-    selections: &[u32],
-    fragments: &[u32],
-    nodes: &[u32],
-    variables: &[u32],
+    tables: &Tables,
     plans: &mut [u16],
     top: usize,
     plan: usize,
     group: usize,
     object: u32,
 ) -> Planned
-    requires { Plannable type_refs.now types.now fields.now sets.now selections.now fragments.now plans.old top plan group object × (8 * (top + 256) ≤ length plans.old) }
-    ensures { PlansFor type_refs.now types.now members.now fields.now sets.now selections.now fragments.now nodes.now variables.now plans.old top plan group object result plans.new }
+    requires { let t = tables.now in Plannable t.type_refs.now t.types.now t.fields.now t.sets.now t.selections.now t.fragments.now plans.old top plan group object × (8 * (top + 256) ≤ length plans.old) }
+    ensures { let t = tables.now in PlansFor t.type_refs.now t.types.now t.members.now t.fields.now t.sets.now t.selections.now t.fragments.now t.nodes.now t.variables.now plans.old top plan group object result plans.new }
 {
     let mut list = [0u16; 128];
-    let collecting = collect_group(
-        types, members, sets, selections, fragments, nodes, variables, plans, &mut list, object,
-        plan, group,
-    );
+    let collecting = collect_group(tables, plans, &mut list, object, plan, group);
     match collecting {
         Collecting::TooFar => Planned::TooFar,
         Collecting::TooManyFields => Planned::TooManyFields,
         Collecting::On(gathered) => put_plan(
-            type_refs,
-            types,
-            fields,
-            selections,
+            tables,
             plans,
             &list,
             gathered.count,
@@ -178,15 +140,7 @@ fn make_plan(
 
 // The plan for a group of a plan and an object type: the one that stands, or a new one behind all that stand.
 pub fn plan_for(
-    type_refs: &[u32],
-    types: &[u32],
-    members: &[u32],
-    fields: &[u32],
-    sets: &[u32],
-    selections: &[u32],
-    fragments: &[u32],
-    nodes: &[u32],
-    variables: &[u32],
+    tables: &Tables,
     plans: &mut [u16],
     hints: &mut [u32],
     top: usize,
@@ -194,8 +148,8 @@ pub fn plan_for(
     group: usize,
     object: u32,
 ) -> Planned
-    requires { Plannable type_refs.now types.now fields.now sets.now selections.now fragments.now plans.old top plan group object × (length hints.old ≡ 1024) }
-    ensures { PlansFor type_refs.now types.now members.now fields.now sets.now selections.now fragments.now nodes.now variables.now plans.old top plan group object result plans.new }
+    requires { let t = tables.now in Plannable t.type_refs.now t.types.now t.fields.now t.sets.now t.selections.now t.fragments.now plans.old top plan group object × (length hints.old ≡ 1024) }
+    ensures { let t = tables.now in PlansFor t.type_refs.now t.types.now t.members.now t.fields.now t.sets.now t.selections.now t.fragments.now t.nodes.now t.variables.now plans.old top plan group object result plans.new }
 {
     let slot = hint_at(plan, group, object);
     let hint = hints[slot] as usize;
@@ -208,10 +162,7 @@ pub fn plan_for(
     if plans.len() < WIDTH * (top + MOST_PLAN_ROWS) {
         return Planned::NoRoom;
     }
-    let planned = make_plan(
-        type_refs, types, members, fields, sets, selections, fragments, nodes, variables, plans,
-        top, plan, group, object,
-    );
+    let planned = make_plan(tables, plans, top, plan, group, object);
     let Planned::At { plan: made, top: _ } = planned else {
         return planned;
     };
@@ -220,79 +171,36 @@ pub fn plan_for(
 }
 
 // The plan of the operation's own set, at the beginning of a store.
-pub fn plan_operation(
-    type_refs: &[u32],
-    types: &[u32],
-    members: &[u32],
-    fields: &[u32],
-    sets: &[u32],
-    selections: &[u32],
-    fragments: &[u32],
-    nodes: &[u32],
-    variables: &[u32],
-    store: &mut [u16],
-    object: u32,
-) -> Planned
-    requires { Storable type_refs.now types.now fields.now sets.now selections.now fragments.now store.old object }
-    ensures { PlansAlone type_refs.now types.now members.now fields.now sets.now selections.now fragments.now nodes.now variables.now operation_of object store.old result store.new }
+pub fn plan_operation(tables: &Tables, store: &mut [u16], object: u32) -> Planned
+    requires { let t = tables.now in Storable t.type_refs.now t.types.now t.fields.now t.sets.now t.selections.now t.fragments.now store.old object }
+    ensures { let t = tables.now in PlansAlone t.type_refs.now t.types.now t.members.now t.fields.now t.sets.now t.selections.now t.fragments.now t.nodes.now t.variables.now operation_of object store.old result store.new }
 {
     let mut list = [0u16; 128];
-    let collecting = collect_operation(
-        types, members, sets, selections, fragments, nodes, variables, &mut list, object,
-    );
+    let collecting = collect_operation(tables, &mut list, object);
     match collecting {
         Collecting::TooFar => Planned::TooFar,
         Collecting::TooManyFields => Planned::TooManyFields,
-        Collecting::On(gathered) => plan_set(
-            type_refs,
-            types,
-            fields,
-            selections,
-            store,
-            &list,
-            gathered.count,
-            object,
-        ),
+        Collecting::On(gathered) => plan_set(tables, store, &list, gathered.count, object),
     }
 }
 
 // The plan for a group of a plan and an object type, at the beginning of a store of its own.
 pub fn plan_apart(
-    type_refs: &[u32],
-    types: &[u32],
-    members: &[u32],
-    fields: &[u32],
-    sets: &[u32],
-    selections: &[u32],
-    fragments: &[u32],
-    nodes: &[u32],
-    variables: &[u32],
+    tables: &Tables,
     plans: &[u16],
     store: &mut [u16],
     plan: usize,
     group: usize,
     object: u32,
 ) -> Planned
-    requires { Storable type_refs.now types.now fields.now sets.now selections.now fragments.now store.old object × Lookable plans.now plan group }
-    ensures { PlansAlone type_refs.now types.now members.now fields.now sets.now selections.now fragments.now nodes.now variables.now (beneath_group plans.now plan group) object store.old result store.new }
+    requires { let t = tables.now in Storable t.type_refs.now t.types.now t.fields.now t.sets.now t.selections.now t.fragments.now store.old object × Lookable plans.now plan group }
+    ensures { let t = tables.now in PlansAlone t.type_refs.now t.types.now t.members.now t.fields.now t.sets.now t.selections.now t.fragments.now t.nodes.now t.variables.now (beneath_group plans.now plan group) object store.old result store.new }
 {
     let mut list = [0u16; 128];
-    let collecting = collect_group(
-        types, members, sets, selections, fragments, nodes, variables, plans, &mut list, object,
-        plan, group,
-    );
+    let collecting = collect_group(tables, plans, &mut list, object, plan, group);
     match collecting {
         Collecting::TooFar => Planned::TooFar,
         Collecting::TooManyFields => Planned::TooManyFields,
-        Collecting::On(gathered) => plan_set(
-            type_refs,
-            types,
-            fields,
-            selections,
-            store,
-            &list,
-            gathered.count,
-            object,
-        ),
+        Collecting::On(gathered) => plan_set(tables, store, &list, gathered.count, object),
     }
 }

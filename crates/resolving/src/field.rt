@@ -28,6 +28,7 @@ use rows::document::{field_selection, selection_place};
 use rows::layout::Range;
 use rows::names::name_text;
 use rows::schema::{TypeRef, field_at, type_at, type_ref_at};
+use rows::tables::Tables;
 use tokens::json::put_string;
 use walking::path::{MOST_SEGMENTS, Path, index_segment, name_segment};
 use walking::settle::{fail, moved, settle, stopped, try_nullify};
@@ -82,11 +83,11 @@ pub enum Answered {
 }
 
 // A comma, the response key and a colon.
-fn put_key(pool: &[u8], names: &[u32], text: &mut [u8], at: usize, key: u32) -> usize
-    ensures { Wrote text.old text.new at result (keyed_by (name_text pool.now names.now key)) }
+fn put_key(tables: &Tables, text: &mut [u8], at: usize, key: u32) -> usize
+    ensures { let t = tables.now in Wrote text.old text.new at result (keyed_by (name_text t.pool.now t.names.now key)) }
 {
     let next = put(text, at, b',');
-    let colon = put_string(text, next, name_text(pool, names, key));
+    let colon = put_string(text, next, name_text(tables.pool, tables.names, key));
     put(text, colon, b':')
 }
 
@@ -109,18 +110,11 @@ fn open_list(type_refs: &[u32], ty: u32, rows: Range) -> Opened
 }
 
 // CompleteValue of an object, up to its fields.
-fn open_object(
-    type_refs: &[u32],
-    types: &[u32],
-    members: &[u32],
-    ty: u32,
-    name: u32,
-    rows: Range,
-) -> Opened
-    requires { Listed types.now × Known types.now }
-    ensures { OpensObject type_refs.now types.now members.now ty name rows result }
+fn open_object(tables: &Tables, ty: u32, name: u32, rows: Range) -> Opened
+    requires { let t = tables.now in Listed t.types.now × Known t.types.now }
+    ensures { let t = tables.now in OpensObject t.type_refs.now t.types.now t.members.now ty name rows result }
 {
-    match object_type(type_refs, types, members, ty, name) {
+    match object_type(tables, ty, name) {
         Typed::Error(error) => Opened::Error(error),
         Typed::Type(object) => Opened::Container(Container::Object {
             object: object,
@@ -178,15 +172,7 @@ fn deepen(
 
 // CompleteValue of what was given, behind its label.
 fn complete_value(
-    pool: &[u8],
-    names: &[u32],
-    type_refs: &[u32],
-    types: &[u32],
-    members: &[u32],
-    fields: &[u32],
-    nodes: &[u32],
-    literals: &[u32],
-    variables: &[u32],
+    tables: &Tables,
     text: &mut [u8],
     errors: &mut [u32],
     path: Path,
@@ -198,65 +184,38 @@ fn complete_value(
     given: Given,
     s: State,
 ) -> Step
-    requires completable { Completable types.now nodes.now literals.now variables.now }
+    requires completable { let t = tables.now in Completable t.types.now t.nodes.now t.literals.now t.variables.now }
     requires count_bound { path.count < 32 }
-    ensures { CompletesBehind path last asked pool.now names.now type_refs.now types.now members.now fields.now nodes.now literals.now variables.now ty non_null start given text.old errors.old s result text.new errors.new }
+    ensures { let t = tables.now in CompletesBehind path last asked t.pool.now t.names.now t.type_refs.now t.types.now t.members.now t.fields.now t.nodes.now t.literals.now t.variables.now ty non_null start given text.old errors.old s result text.new errors.new }
 {
     match given {
         Given::Leaf(leaf) => {
-            let d = complete_leaf_value(
-                pool,
-                names,
-                type_refs,
-                types,
-                members,
-                fields,
-                nodes,
-                literals,
-                variables,
-                text,
-                errors,
-                path,
-                last,
-                asked.place,
-                ty,
-                leaf,
-                s,
-            );
+            let d = complete_leaf_value(tables, text, errors, path, last, asked.place, ty, leaf, s);
             Step::Finished(finished(text, non_null, start, d))
         }
         Given::List(rows) => {
-            let opened = open_list(type_refs, ty, rows);
+            let opened = open_list(tables.type_refs, ty, rows);
             deepen(text, errors, path, last, asked, non_null, start, opened, s)
         }
         Given::Object {
             ty: name,
             fields: rows,
         } => {
-            let opened = open_object(type_refs, types, members, ty, name, rows);
+            let opened = open_object(tables, ty, name, rows);
             deepen(text, errors, path, last, asked, non_null, start, opened, s)
         }
     }
 }
 
 // ResolveFieldValue: "no row is an error".
-fn resolve_field_value(
-    arguments: &[u32],
-    given: &[u32],
-    literals: &[u32],
-    variables: &[u32],
-    answers: &[u32],
-    asked: Asked,
-    rows: Range,
-    name: u32,
-) -> Resolved
-    requires askable { Askable arguments.now asked × ((row : ℕ) → Leads (answer_at answers.now row)) }
+fn resolve_field_value(tables: &Tables, asked: Asked, rows: Range, name: u32) -> Resolved
+    requires askable { let t = tables.now in Askable t.arguments.now asked × ((row : ℕ) → Leads (answer_at t.answers.now row)) }
     requires count_bound { rows.first + rows.count ≤ most_answers }
-    ensures { ResolvesField arguments.now given.now literals.now variables.now answers.now asked rows name result }
+    ensures { let t = tables.now in ResolvesField t.arguments.now t.given.now t.literals.now t.variables.now t.answers.now asked rows name result }
 {
-    match field_answer(answers, rows, name) {
+    match field_answer(tables.answers, rows, name) {
         None => Resolved::Error,
-        Some(row) => resolve_row(arguments, given, literals, variables, answers, asked, row),
+        Some(row) => resolve_row(tables, asked, row),
     }
 }
 
@@ -275,42 +234,13 @@ fn answer_of(place: u32, resolved: Resolved) -> Answered
 }
 
 // The arguments of a field, and its answer.
-fn answer_field(
-    type_refs: &[u32],
-    types: &[u32],
-    fields: &[u32],
-    arguments: &[u32],
-    given: &[u32],
-    nodes: &[u32],
-    literals: &[u32],
-    variables: &[u32],
-    answers: &[u32],
-    asked: Asked,
-    rows: Range,
-    name: u32,
-) -> Answered
-    requires coercible { Coercible types.now nodes.now literals.now variables.now × Resolvable arguments.now nodes.now answers.now asked }
+fn answer_field(tables: &Tables, asked: Asked, rows: Range, name: u32) -> Answered
+    requires coercible { let t = tables.now in Coercible t.types.now t.nodes.now t.literals.now t.variables.now × Resolvable t.arguments.now t.nodes.now t.answers.now asked }
     requires count_bound { rows.first + rows.count ≤ most_answers }
-    ensures { AnswersField type_refs.now types.now fields.now arguments.now given.now nodes.now literals.now variables.now answers.now asked rows name result }
+    ensures { let t = tables.now in AnswersField t.type_refs.now t.types.now t.fields.now t.arguments.now t.given.now t.nodes.now t.literals.now t.variables.now t.answers.now asked rows name result }
 {
-    match coerce_argument_values(
-        type_refs,
-        types,
-        fields,
-        arguments,
-        given,
-        nodes,
-        literals,
-        variables,
-        asked.definitions,
-        asked.written,
-    ) {
-        Coercion::Value => answer_of(
-            asked.place,
-            resolve_field_value(
-                arguments, given, literals, variables, answers, asked, rows, name,
-            ),
-        ),
+    match coerce_argument_values(tables, asked.definitions, asked.written) {
+        Coercion::Value => answer_of(asked.place, resolve_field_value(tables, asked, rows, name)),
         Coercion::Failed(failure) => {
             let error = failure.error;
             Answered::Failed {
@@ -325,15 +255,7 @@ fn answer_field(
 
 // A field that was answered, behind its label.
 fn complete_answered(
-    pool: &[u8],
-    names: &[u32],
-    type_refs: &[u32],
-    types: &[u32],
-    members: &[u32],
-    fields: &[u32],
-    nodes: &[u32],
-    literals: &[u32],
-    variables: &[u32],
+    tables: &Tables,
     text: &mut [u8],
     errors: &mut [u32],
     path: Path,
@@ -345,15 +267,14 @@ fn complete_answered(
     answer: Answered,
     s: State,
 ) -> Step
-    requires completable { Completable types.now nodes.now literals.now variables.now }
+    requires completable { let t = tables.now in Completable t.types.now t.nodes.now t.literals.now t.variables.now }
     requires count_bound { path.count < 32 }
-    ensures { AnswersBehind path last asked pool.now names.now type_refs.now types.now members.now fields.now nodes.now literals.now variables.now ty non_null start answer text.old errors.old s result text.new errors.new }
+    ensures { let t = tables.now in AnswersBehind path last asked t.pool.now t.names.now t.type_refs.now t.types.now t.members.now t.fields.now t.nodes.now t.literals.now t.variables.now ty non_null start answer text.old errors.old s result text.new errors.new }
 {
     match answer {
         Answered::Skip => Step::Finished(left_out(moved(s, start))),
         Answered::Given(given) => complete_value(
-            pool, names, type_refs, types, members, fields, nodes, literals, variables, text,
-            errors, path, last, asked, ty, non_null, start, given, s,
+            tables, text, errors, path, last, asked, ty, non_null, start, given, s,
         ),
         Answered::Failed { error, place } => {
             let d = fail(errors, s, Failure::Here, error, place, path, last);
@@ -365,15 +286,7 @@ fn complete_answered(
 
 // `__typename`, which is never null in place of another value.
 fn execute_typename(
-    pool: &[u8],
-    names: &[u32],
-    type_refs: &[u32],
-    types: &[u32],
-    members: &[u32],
-    fields: &[u32],
-    nodes: &[u32],
-    literals: &[u32],
-    variables: &[u32],
+    tables: &Tables,
     text: &mut [u8],
     errors: &mut [u32],
     path: Path,
@@ -384,21 +297,13 @@ fn execute_typename(
     start: usize,
     s: State,
 ) -> Done
-    requires completable { Completable types.now nodes.now literals.now variables.now }
+    requires completable { let t = tables.now in Completable t.types.now t.nodes.now t.literals.now t.variables.now }
     requires count_bound { path.count < 32 }
-    ensures { TypenameBehind path last pool.now names.now type_refs.now types.now members.now fields.now nodes.now literals.now variables.now place ty object start text.old errors.old s result text.new errors.new }
+    ensures { let t = tables.now in TypenameBehind path last t.pool.now t.names.now t.type_refs.now t.types.now t.members.now t.fields.now t.nodes.now t.literals.now t.variables.now place ty object start text.old errors.old s result text.new errors.new }
 {
-    let def = type_at(types, object);
+    let def = type_at(tables.types, object);
     let d = complete_leaf_value(
-        pool,
-        names,
-        type_refs,
-        types,
-        members,
-        fields,
-        nodes,
-        literals,
-        variables,
+        tables,
         text,
         errors,
         path,
@@ -413,19 +318,7 @@ fn execute_typename(
 
 // A field, with its comma and its key, as far as it goes without going further down.
 pub fn execute_field(
-    pool: &[u8],
-    names: &[u32],
-    type_refs: &[u32],
-    types: &[u32],
-    members: &[u32],
-    fields: &[u32],
-    arguments: &[u32],
-    selections: &[u32],
-    given: &[u32],
-    nodes: &[u32],
-    literals: &[u32],
-    variables: &[u32],
-    answers: &[u32],
+    tables: &Tables,
     text: &mut [u8],
     errors: &mut [u32],
     path: Path,
@@ -435,10 +328,10 @@ pub fn execute_field(
     rows: Range,
     s: State,
 ) -> Step
-    requires answerable { Answerable types.now fields.now arguments.now selections.now nodes.now literals.now variables.now answers.now }
+    requires answerable { let t = tables.now in Answerable t.types.now t.fields.now t.arguments.now t.selections.now t.nodes.now t.literals.now t.variables.now t.answers.now }
     requires count_bound { (path.count ≤ 32) × (rows.first + rows.count ≤ most_answers) }
-    requires field_row { FieldRow selections.now first × (own ≡ definition_code (definition_of (schema types.now fields.now) object (field_selection selections.now first).name)) }
-    ensures { ExecutesField pool.now names.now type_refs.now types.now members.now fields.now arguments.now selections.now given.now nodes.now literals.now variables.now answers.now path first object rows text.old errors.old s result text.new errors.new }
+    requires field_row { let t = tables.now in FieldRow t.selections.now first × (own ≡ definition_code (definition_of (schema t.types.now t.fields.now) object (field_selection t.selections.now first).name)) }
+    ensures { let t = tables.now in ExecutesField t.pool.now t.names.now t.type_refs.now t.types.now t.members.now t.fields.now t.arguments.now t.selections.now t.given.now t.nodes.now t.literals.now t.variables.now t.answers.now path first object rows text.old errors.old s result text.new errors.new }
 {
     if own == UNDEFINED {
         return Step::Finished(left_out(s));
@@ -446,18 +339,17 @@ pub fn execute_field(
     if MOST_SEGMENTS <= path.count {
         return Step::Finished(stopped(s, Outcome::TooFar.code()));
     }
-    let field = field_selection(selections, first);
-    let place = selection_place(selections, first);
+    let field = field_selection(tables.selections, first);
+    let place = selection_place(tables.selections, first);
     let last = name_segment(field.key);
     let start = s.at;
-    let open = moved(s, put_key(pool, names, text, start, field.key));
+    let open = moved(s, put_key(tables, text, start, field.key));
     if own == TYPENAME {
         return Step::Finished(execute_typename(
-            pool, names, type_refs, types, members, fields, nodes, literals, variables, text,
-            errors, path, last, place, field.ty, object, start, open,
+            tables, text, errors, path, last, place, field.ty, object, start, open,
         ));
     }
-    let def = field_at(fields, (own - DEFINED) as u32);
+    let def = field_at(tables.fields, (own - DEFINED) as u32);
     let definitions = def.arguments;
     let written = field.given;
     let asked = Asked {
@@ -465,27 +357,16 @@ pub fn execute_field(
         written: written,
         place: place,
     };
-    let answer = answer_field(
-        type_refs, types, fields, arguments, given, nodes, literals, variables, answers, asked,
-        rows, field.name,
-    );
+    let answer = answer_field(tables, asked, rows, field.name);
     complete_answered(
-        pool,
-        names,
-        type_refs,
-        types,
-        members,
-        fields,
-        nodes,
-        literals,
-        variables,
+        tables,
         text,
         errors,
         path,
         last,
         asked,
         field.ty,
-        is_non_null(type_refs, def.ty),
+        is_non_null(tables.type_refs, def.ty),
         start,
         answer,
         open,
@@ -494,18 +375,7 @@ pub fn execute_field(
 
 // An item, with its comma, as far as it goes without going further down.
 pub fn complete_item(
-    pool: &[u8],
-    names: &[u32],
-    type_refs: &[u32],
-    types: &[u32],
-    members: &[u32],
-    fields: &[u32],
-    arguments: &[u32],
-    given: &[u32],
-    nodes: &[u32],
-    literals: &[u32],
-    variables: &[u32],
-    answers: &[u32],
+    tables: &Tables,
     text: &mut [u8],
     errors: &mut [u32],
     path: Path,
@@ -515,15 +385,15 @@ pub fn complete_item(
     row: u32,
     s: State,
 ) -> Step
-    requires itemizable { Itemizable types.now arguments.now nodes.now literals.now variables.now answers.now asked }
+    requires itemizable { let t = tables.now in Itemizable t.types.now t.arguments.now t.nodes.now t.literals.now t.variables.now t.answers.now asked }
     requires count_bound { (path.count ≤ 32) × (index < 4096) }
-    ensures { CompletesItem pool.now names.now type_refs.now types.now members.now fields.now arguments.now given.now nodes.now literals.now variables.now answers.now path index asked inner row text.old errors.old s result text.new errors.new }
+    ensures { let t = tables.now in CompletesItem t.pool.now t.names.now t.type_refs.now t.types.now t.members.now t.fields.now t.arguments.now t.given.now t.nodes.now t.literals.now t.variables.now t.answers.now path index asked inner row text.old errors.old s result text.new errors.new }
 {
     if MOST_SEGMENTS <= path.count {
         return Step::Finished(stopped(s, Outcome::TooFar.code()));
     }
     let last = index_segment(index);
-    match resolve_row(arguments, given, literals, variables, answers, asked, row) {
+    match resolve_row(tables, asked, row) {
         Resolved::Skip => Step::Finished(left_out(s)),
         Resolved::Error => Step::Finished(fail(
             errors,
@@ -538,22 +408,14 @@ pub fn complete_item(
             let start = s.at;
             let open = moved(s, put(text, start, b','));
             complete_value(
-                pool,
-                names,
-                type_refs,
-                types,
-                members,
-                fields,
-                nodes,
-                literals,
-                variables,
+                tables,
                 text,
                 errors,
                 path,
                 last,
                 asked,
                 inner,
-                is_non_null(type_refs, inner),
+                is_non_null(tables.type_refs, inner),
                 start,
                 value,
                 open,

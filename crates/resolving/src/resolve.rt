@@ -13,6 +13,7 @@ use echoing::echo::{Source, argument_source};
 use leaves::leaf::{Leaf, leaf_sort, leaf_string, put_leaf};
 use rows::answers::{Answer, answer_at};
 use rows::layout::Range;
+use rows::tables::Tables;
 use values::node::Put;
 use walking::path::Path;
 use walking::settle::{fail, placed, stopped};
@@ -43,26 +44,11 @@ pub struct Asked {
 }
 
 // The argument of this name, which is echoed.
-fn echoed(
-    arguments: &[u32],
-    given: &[u32],
-    literals: &[u32],
-    variables: &[u32],
-    asked: Asked,
-    name: u32,
-) -> Resolved
-    requires { Askable arguments.now asked }
-    ensures { EchoesArgument arguments.now given.now literals.now variables.now asked name result }
+fn echoed(tables: &Tables, asked: Asked, name: u32) -> Resolved
+    requires { let t = tables.now in Askable t.arguments.now asked }
+    ensures { let t = tables.now in EchoesArgument t.arguments.now t.given.now t.literals.now t.variables.now asked name result }
 {
-    match argument_source(
-        arguments,
-        given,
-        literals,
-        variables,
-        asked.definitions,
-        asked.written,
-        name,
-    ) {
+    match argument_source(tables, asked.definitions, asked.written, name) {
         Source::Absent => Resolved::Error,
         Source::Node(row) => Resolved::Given(Given::Leaf(Leaf::Node(row))),
         Source::Literal { ty, row } => {
@@ -73,20 +59,12 @@ fn echoed(
 }
 
 // The answer in a row, to a field that is asked so.
-pub fn resolve_row(
-    arguments: &[u32],
-    given: &[u32],
-    literals: &[u32],
-    variables: &[u32],
-    answers: &[u32],
-    asked: Asked,
-    row: u32,
-) -> Resolved
-    requires askable { Askable arguments.now asked }
-    requires leads { Leads (answer_at answers.now row) }
-    ensures { ResolvesRow arguments.now given.now literals.now variables.now answers.now asked row result }
+pub fn resolve_row(tables: &Tables, asked: Asked, row: u32) -> Resolved
+    requires askable { let t = tables.now in Askable t.arguments.now asked }
+    requires leads { let t = tables.now in Leads (answer_at t.answers.now row) }
+    ensures { let t = tables.now in ResolvesRow t.arguments.now t.given.now t.literals.now t.variables.now t.answers.now asked row result }
 {
-    match answer_at(answers, row) {
+    match answer_at(tables.answers, row) {
         Answer::Skip => Resolved::Skip,
         Answer::Error => Resolved::Error,
         Answer::Leaf(node) => Resolved::Given(Given::Leaf(Leaf::Node(node))),
@@ -95,22 +73,14 @@ pub fn resolve_row(
             ty: ty,
             fields: fields,
         }),
-        Answer::Echo(name) => echoed(arguments, given, literals, variables, asked, name),
+        Answer::Echo(name) => echoed(tables, asked, name),
         Answer::Unknown => Resolved::Error,
     }
 }
 
 // CompleteValue of a leaf. It is written before it is judged: too many containers come before what is wrong with its type.
 pub fn complete_leaf_value(
-    pool: &[u8],
-    names: &[u32],
-    type_refs: &[u32],
-    types: &[u32],
-    members: &[u32],
-    fields: &[u32],
-    nodes: &[u32],
-    literals: &[u32],
-    variables: &[u32],
+    tables: &Tables,
     text: &mut [u8],
     errors: &mut [u32],
     path: Path,
@@ -120,19 +90,17 @@ pub fn complete_leaf_value(
     leaf: Leaf,
     s: State,
 ) -> Done
-    requires listed { Listed types.now × Coercible types.now nodes.now literals.now variables.now × Parted nodes.now }
+    requires listed { let t = tables.now in Listed t.types.now × Coercible t.types.now t.nodes.now t.literals.now t.variables.now × Parted t.nodes.now }
     requires count_bound { path.count ≤ 32 }
-    ensures { CompletesAt pool.now names.now type_refs.now types.now members.now fields.now nodes.now literals.now variables.now ty leaf place path last text.old errors.old s result text.new errors.new }
+    ensures { let t = tables.now in CompletesAt t.pool.now t.names.now t.type_refs.now t.types.now t.members.now t.fields.now t.nodes.now t.literals.now t.variables.now ty leaf place path last text.old errors.old s result text.new errors.new }
 {
-    let written = put_leaf(
-        pool, names, type_refs, types, fields, nodes, literals, variables, text, s.at, leaf,
-    );
+    let written = put_leaf(tables, text, s.at, leaf);
     let Put::At(end) = written else {
         return stopped(s, Outcome::TooFar.code());
     };
-    let sort = leaf_sort(type_refs, types, nodes, literals, leaf);
-    let string = leaf_string(pool, names, nodes, literals, leaf);
-    match judge_leaf(pool, names, type_refs, types, members, ty, sort, string) {
+    let sort = leaf_sort(tables, leaf);
+    let string = leaf_string(tables, leaf);
+    match judge_leaf(tables, ty, sort, string) {
         Verdict::Fits => placed(s, end, Kind::Leaf),
         Verdict::Error(error) => fail(errors, s, Failure::Here, error, place, path, last),
     }

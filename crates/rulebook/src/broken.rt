@@ -5,6 +5,7 @@ ghost use Rattle.rulebook.specs.Broken.{FirstBroken};
 
 use crate::ask::{rule_holds_at, rule_rows};
 use distinct::keys::all_node_keys_differ;
+use rows::tables::Tables;
 use tables::rule::{Rule, ValueRule};
 
 // The first row at which a rule is broken, if there is one.
@@ -36,41 +37,17 @@ fn is_on_keys(rule: Rule) -> bool
 }
 
 // The first row at which the rule does not hold.
-pub fn first_broken(
-    rule: Rule,
-    pool: &[u8],
-    names: &[u32],
-    type_refs: &[u32],
-    types: &[u32],
-    members: &[u32],
-    fields: &[u32],
-    arguments: &[u32],
-    sets: &[u32],
-    selections: &[u32],
-    given: &[u32],
-    fragments: &[u32],
-    nodes: &[u32],
-    literals: &[u32],
-    variables: &[u32],
-    answers: &[u32],
-    root: u32,
-) -> Broken
-    ensures { FirstBroken rule (tables pool.now names.now type_refs.now types.now members.now fields.now arguments.now sets.now selections.now given.now fragments.now nodes.now literals.now variables.now answers.now root) result }
+pub fn first_broken(rule: Rule, tables: &Tables) -> Broken
+    ensures { let t = tables.now in FirstBroken rule (tables t.pool.now t.names.now t.type_refs.now t.types.now t.members.now t.fields.now t.arguments.now t.sets.now t.selections.now t.given.now t.fragments.now t.nodes.now t.literals.now t.variables.now t.answers.now t.root) result }
 {
     if is_on_keys(rule) {
-        if all_node_keys_differ(pool, nodes) {
+        if all_node_keys_differ(tables.pool, tables.nodes) {
             return Broken::Nowhere;
         }
     }
-    let rows = rule_rows(
-        rule, pool, names, type_refs, types, members, fields, arguments, sets, selections, given,
-        fragments, nodes, literals, variables, answers, root,
-    );
+    let rows = rule_rows(rule, tables);
     for row in 0..rows {
-        if !rule_holds_at(
-            rule, pool, names, type_refs, types, members, fields, arguments, sets, selections,
-            given, fragments, nodes, literals, variables, answers, root, row,
-        ) {
+        if !rule_holds_at(rule, tables, row) {
             return Broken::At(row);
         }
     }

@@ -18,6 +18,7 @@ use planning::layout::STORE_WORDS;
 use planning::plan::{Planned, plan_operation};
 use rows::answers::{Answer, answer_at};
 use rows::layout::Range;
+use rows::tables::Tables;
 use tables::check::{LAWFUL, buffers_are_lawful, choices_are_lawful, table_check};
 use walking::path::root_path;
 use walking::settle::stopped;
@@ -29,40 +30,17 @@ const SPAN_WORDS: usize = 4224;
 const HINTS: usize = 1024;
 
 // "1 before 2 before the walk": why a run is refused without a walk, or 0.
-fn refusal(
-    pool: &[u8],
-    names: &[u32],
-    type_refs: &[u32],
-    types: &[u32],
-    members: &[u32],
-    fields: &[u32],
-    arguments: &[u32],
-    sets: &[u32],
-    selections: &[u32],
-    given: &[u32],
-    fragments: &[u32],
-    nodes: &[u32],
-    literals: &[u32],
-    variables: &[u32],
-    answers: &[u32],
-    root: u32,
-    choices: usize,
-    text: usize,
-    errors: usize,
-) -> u32
-    ensures { result ≡ refusal_of (tables pool.now names.now type_refs.now types.now members.now fields.now arguments.now sets.now selections.now given.now fragments.now nodes.now literals.now variables.now answers.now root) choices text errors }
+fn refusal(tables: &Tables, choices: usize, text: usize, errors: usize) -> u32
+    ensures { let t = tables.now in result ≡ refusal_of (tables t.pool.now t.names.now t.type_refs.now t.types.now t.members.now t.fields.now t.arguments.now t.sets.now t.selections.now t.given.now t.fragments.now t.nodes.now t.literals.now t.variables.now t.answers.now t.root) choices text errors }
 {
-    let code = table_check(
-        pool, names, type_refs, types, members, fields, arguments, sets, selections, given,
-        fragments, nodes, literals, variables, answers, root,
-    );
+    let code = table_check(tables);
     if code != LAWFUL {
         return Outcome::Unlawful.code();
     }
     if !(buffers_are_lawful(text, errors) & choices_are_lawful(choices)) {
         return Outcome::Unlawful.code();
     }
-    if introspects(selections) {
+    if introspects(tables.selections) {
         return Outcome::AsksForSchema.code();
     }
     Outcome::Answered.code()
@@ -93,56 +71,19 @@ fn stopped_at_start(planned: Planned) -> Done
 }
 
 // The walk of lawful tables, from nothing written.
-fn execute_operation(
-    pool: &[u8],
-    names: &[u32],
-    type_refs: &[u32],
-    types: &[u32],
-    members: &[u32],
-    fields: &[u32],
-    arguments: &[u32],
-    sets: &[u32],
-    selections: &[u32],
-    given: &[u32],
-    fragments: &[u32],
-    nodes: &[u32],
-    literals: &[u32],
-    variables: &[u32],
-    answers: &[u32],
-    root: u32,
-    choices: &[u32],
-    text: &mut [u8],
-    errors: &mut [u32],
-) -> Done
-    requires { lawful (tables pool.now names.now type_refs.now types.now members.now fields.now arguments.now sets.now selections.now given.now fragments.now nodes.now literals.now variables.now answers.now root) ≡ true }
-    ensures { Gives as_data choices.now text.old errors.old at_start (execute (record { tables = tables pool.now names.now type_refs.now types.now members.now fields.now arguments.now sets.now selections.now given.now fragments.now nodes.now literals.now variables.now answers.now root }) choices.now) result text.new errors.new }
+fn execute_operation(tables: &Tables, choices: &[u32], text: &mut [u8], errors: &mut [u32]) -> Done
+    requires { let t = tables.now in lawful (tables t.pool.now t.names.now t.type_refs.now t.types.now t.members.now t.fields.now t.arguments.now t.sets.now t.selections.now t.given.now t.fragments.now t.nodes.now t.literals.now t.variables.now t.answers.now t.root) ≡ true }
+    ensures { let t = tables.now in Gives as_data choices.now text.old errors.old at_start (execute (record { tables = tables t.pool.now t.names.now t.type_refs.now t.types.now t.members.now t.fields.now t.arguments.now t.sets.now t.selections.now t.given.now t.fragments.now t.nodes.now t.literals.now t.variables.now t.answers.now t.root }) choices.now) result text.new errors.new }
 {
     let mut plans = [0u16; STORE_WORDS];
     let mut spans = [0u64; SPAN_WORDS];
     let mut hints = [0u32; HINTS];
-    let planned = plan_operation(
-        type_refs, types, members, fields, sets, selections, fragments, nodes, variables,
-        &mut plans, root,
-    );
+    let planned = plan_operation(tables, &mut plans, tables.root);
     let Planned::At { plan, top } = planned else {
         return stopped_at_start(planned);
     };
     execute_selection_set(
-        pool,
-        names,
-        type_refs,
-        types,
-        members,
-        fields,
-        arguments,
-        sets,
-        selections,
-        given,
-        fragments,
-        nodes,
-        literals,
-        variables,
-        answers,
+        tables,
         choices,
         text,
         errors,
@@ -151,8 +92,8 @@ fn execute_operation(
         &mut hints,
         root_path(),
         plan,
-        root,
-        root_rows(answers),
+        tables.root,
+        root_rows(tables.answers),
         State {
             at: 0,
             errs: 0,
@@ -164,101 +105,24 @@ fn execute_operation(
 
 // A run in a given order: the choices say which group of a set comes next.
 pub fn run_ordered(
-    pool: &[u8],
-    names: &[u32],
-    type_refs: &[u32],
-    types: &[u32],
-    members: &[u32],
-    fields: &[u32],
-    arguments: &[u32],
-    sets: &[u32],
-    selections: &[u32],
-    given: &[u32],
-    fragments: &[u32],
-    nodes: &[u32],
-    literals: &[u32],
-    variables: &[u32],
-    answers: &[u32],
-    root: u32,
+    tables: &Tables,
     choices: &[u32],
     text: &mut [u8],
     errors: &mut [u32],
 ) -> Reported
-    ensures { Reports (length text.old) (length errors.old) (report (record { tables = tables pool.now names.now type_refs.now types.now members.now fields.now arguments.now sets.now selections.now given.now fragments.now nodes.now literals.now variables.now answers.now root }) (length text.old) (length errors.old) choices.now) result text.new errors.new }
+    ensures { let t = tables.now in Reports (length text.old) (length errors.old) (report (record { tables = tables t.pool.now t.names.now t.type_refs.now t.types.now t.members.now t.fields.now t.arguments.now t.sets.now t.selections.now t.given.now t.fragments.now t.nodes.now t.literals.now t.variables.now t.answers.now t.root }) (length text.old) (length errors.old) choices.now) result text.new errors.new }
 {
-    let code = refusal(
-        pool,
-        names,
-        type_refs,
-        types,
-        members,
-        fields,
-        arguments,
-        sets,
-        selections,
-        given,
-        fragments,
-        nodes,
-        literals,
-        variables,
-        answers,
-        root,
-        choices.len(),
-        text.len(),
-        errors.len(),
-    );
+    let code = refusal(tables, choices.len(), text.len(), errors.len());
     if code != 0 {
         return refuse(text, errors, code);
     }
-    let d = execute_operation(
-        pool, names, type_refs, types, members, fields, arguments, sets, selections, given,
-        fragments, nodes, literals, variables, answers, root, choices, text, errors,
-    );
+    let d = execute_operation(tables, choices, text, errors);
     report_end(text, errors, d)
 }
 
 // A run in document order: with no choices each set takes its groups as they stand.
-pub fn run(
-    pool: &[u8],
-    names: &[u32],
-    type_refs: &[u32],
-    types: &[u32],
-    members: &[u32],
-    fields: &[u32],
-    arguments: &[u32],
-    sets: &[u32],
-    selections: &[u32],
-    given: &[u32],
-    fragments: &[u32],
-    nodes: &[u32],
-    literals: &[u32],
-    variables: &[u32],
-    answers: &[u32],
-    root: u32,
-    text: &mut [u8],
-    errors: &mut [u32],
-) -> Reported
-    ensures { Reports (length text.old) (length errors.old) (report_in_order (record { tables = tables pool.now names.now type_refs.now types.now members.now fields.now arguments.now sets.now selections.now given.now fragments.now nodes.now literals.now variables.now answers.now root }) (length text.old) (length errors.old)) result text.new errors.new }
+pub fn run(tables: &Tables, text: &mut [u8], errors: &mut [u32]) -> Reported
+    ensures { let t = tables.now in Reports (length text.old) (length errors.old) (report_in_order (record { tables = tables t.pool.now t.names.now t.type_refs.now t.types.now t.members.now t.fields.now t.arguments.now t.sets.now t.selections.now t.given.now t.fragments.now t.nodes.now t.literals.now t.variables.now t.answers.now t.root }) (length text.old) (length errors.old)) result text.new errors.new }
 {
-    run_ordered(
-        pool,
-        names,
-        type_refs,
-        types,
-        members,
-        fields,
-        arguments,
-        sets,
-        selections,
-        given,
-        fragments,
-        nodes,
-        literals,
-        variables,
-        answers,
-        root,
-        &answers[0..0],
-        text,
-        errors,
-    )
+    run_ordered(tables, &tables.answers[0..0], text, errors)
 }

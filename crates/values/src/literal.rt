@@ -10,6 +10,7 @@ use crate::node::{Parts, put_brackets};
 use rows::json::{Literal, literal_at, literal_key};
 use rows::names::name_text;
 use rows::strings::text_of;
+use rows::tables::Tables;
 use tokens::json::{put_false, put_natural, put_negative, put_null, put_string, put_true};
 use writing::write::{put, put_all};
 
@@ -22,46 +23,32 @@ pub enum PutLiteral {
 }
 
 // A literal that is no container and no variable.
-fn put_plain_literal(
-    pool: &[u8],
-    names: &[u32],
-    text: &mut [u8],
-    at: usize,
-    literal: Literal,
-) -> usize
-    ensures { Writes text.old text.new at result (print (plain_literal pool.now names.now literal)) }
+fn put_plain_literal(tables: &Tables, text: &mut [u8], at: usize, literal: Literal) -> usize
+    ensures { let t = tables.now in Writes text.old text.new at result (print (plain_literal t.pool.now t.names.now literal)) }
 {
     match literal {
         Literal::False => put_false(text, at),
         Literal::True => put_true(text, at),
         Literal::Natural(n) => put_natural(text, at, n as u64),
         Literal::Negative(n) => put_negative(text, at, n as u64),
-        Literal::Float(spelling) => put_all(text, at, text_of(pool, spelling)),
-        Literal::String(string) => put_string(text, at, text_of(pool, string)),
-        Literal::Enum(name) => put_string(text, at, name_text(pool, names, name)),
+        Literal::Float(spelling) => put_all(text, at, text_of(tables.pool, spelling)),
+        Literal::String(string) => put_string(text, at, text_of(tables.pool, string)),
+        Literal::Enum(name) => put_string(text, at, name_text(tables.pool, tables.names, name)),
         _ => put_null(text, at),
     }
 }
 
 // What stands before the value of a part: a comma; in an object its key and a colon too.
-fn put_literal_label(
-    pool: &[u8],
-    names: &[u32],
-    literals: &[u32],
-    text: &mut [u8],
-    at: usize,
-    keyed: bool,
-    row: u32,
-) -> usize
-    ensures { Writes text.old text.new at result
-        (label keyed (literal_key_text pool.now names.now literals.now row)) }
+fn put_literal_label(tables: &Tables, text: &mut [u8], at: usize, keyed: bool, row: u32) -> usize
+    ensures { let t = tables.now in Writes text.old text.new at result
+        (label keyed (literal_key_text t.pool.now t.names.now t.literals.now row)) }
 {
     let next = put(text, at, b',');
     if keyed {
         let end = put_string(
             text,
             next,
-            name_text(pool, names, literal_key(literals, row)),
+            name_text(tables.pool, tables.names, literal_key(tables.literals, row)),
         );
         return put(text, end, b':');
     }
@@ -69,18 +56,10 @@ fn put_literal_label(
 }
 
 #[cycle(put_literal_put_parts)]
-fn put_parts(
-    pool: &[u8],
-    names: &[u32],
-    literals: &[u32],
-    text: &mut [u8],
-    at: usize,
-    room: u32,
-    parts: Parts,
-) -> PutLiteral
-    requires literals_parted { LiteralsParted literals.now }
+fn put_parts(tables: &Tables, text: &mut [u8], at: usize, room: u32, parts: Parts) -> PutLiteral
+    requires literals_parted { let t = tables.now in LiteralsParted t.literals.now }
     requires count_bound { parts.rows.first + parts.rows.count ≤ most_literals }
-    ensures { PutsParts pool.now names.now literals.now room parts
+    ensures { let t = tables.now in PutsParts t.pool.now t.names.now t.literals.now room parts
         text.old at result text.new }
 {
     if room == 0 {
@@ -93,8 +72,8 @@ fn put_parts(
     let mut next = at;
     for i in 0..count {
         let row = first + i;
-        let value = put_literal_label(pool, names, literals, text, next, keyed, row);
-        let written = put_literal(pool, names, literals, text, value, room - 1, row);
+        let value = put_literal_label(tables, text, next, keyed, row);
+        let written = put_literal(tables, text, value, room - 1, row);
         let PutLiteral::At(end) = written else {
             return written;
         };
@@ -105,36 +84,28 @@ fn put_parts(
 
 // What was written before it was given up is nobody's.
 #[cycle(put_literal_put_parts)]
-pub fn put_literal(
-    pool: &[u8],
-    names: &[u32],
-    literals: &[u32],
-    text: &mut [u8],
-    at: usize,
-    room: u32,
-    row: u32,
-) -> PutLiteral
-    requires { LiteralsParted literals.now }
-    ensures { PutsLiteral pool.now names.now literals.now room row
+pub fn put_literal(tables: &Tables, text: &mut [u8], at: usize, room: u32, row: u32) -> PutLiteral
+    requires { let t = tables.now in LiteralsParted t.literals.now }
+    ensures { let t = tables.now in PutsLiteral t.pool.now t.names.now t.literals.now room row
         text.old at result text.new }
 {
-    let literal = literal_at(literals, row);
+    let literal = literal_at(tables.literals, row);
     match literal {
         Literal::List(rows) => {
             let parts = Parts {
                 keyed: false,
                 rows: rows,
             };
-            put_parts(pool, names, literals, text, at, room, parts)
+            put_parts(tables, text, at, room, parts)
         }
         Literal::Object(rows) => {
             let parts = Parts {
                 keyed: true,
                 rows: rows,
             };
-            put_parts(pool, names, literals, text, at, room, parts)
+            put_parts(tables, text, at, room, parts)
         }
         Literal::Variable(_) => PutLiteral::Variable,
-        _ => PutLiteral::At(put_plain_literal(pool, names, text, at, literal)),
+        _ => PutLiteral::At(put_plain_literal(tables, text, at, literal)),
     }
 }

@@ -8,6 +8,7 @@ use crate::plain::put_plain;
 use rows::json::{Node, node_at, node_key};
 use rows::layout::Range;
 use rows::strings::text_of;
+use rows::tables::Tables;
 use tokens::json::put_string;
 use writing::place::close;
 use writing::write::put;
@@ -49,12 +50,16 @@ fn shape_of(node: Node) -> Shape
 }
 
 // What stands before the value of a part: a comma; in an object its key and a colon too.
-fn put_label(pool: &[u8], nodes: &[u32], text: &mut [u8], at: usize, keyed: bool, row: u32) -> usize
-    ensures { Writes text.old text.new at result (label keyed (key_text pool.now nodes.now row)) }
+fn put_label(tables: &Tables, text: &mut [u8], at: usize, keyed: bool, row: u32) -> usize
+    ensures { let t = tables.now in Writes text.old text.new at result (label keyed (key_text t.pool.now t.nodes.now row)) }
 {
     let next = put(text, at, b',');
     if keyed {
-        let end = put_string(text, next, text_of(pool, node_key(nodes, row as usize)));
+        let end = put_string(
+            text,
+            next,
+            text_of(tables.pool, node_key(tables.nodes, row as usize)),
+        );
         return put(text, end, b':');
     }
     next
@@ -71,17 +76,10 @@ pub fn put_brackets(text: &mut [u8], start: usize, at: usize, keyed: bool) -> us
 }
 
 #[cycle(put_container_put_node)]
-fn put_container(
-    pool: &[u8],
-    nodes: &[u32],
-    text: &mut [u8],
-    at: usize,
-    room: u32,
-    parts: Parts,
-) -> Put
-    requires parted { Parted nodes.now }
+fn put_container(tables: &Tables, text: &mut [u8], at: usize, room: u32, parts: Parts) -> Put
+    requires parted { let t = tables.now in Parted t.nodes.now }
     requires count_bound { parts.rows.first + parts.rows.count ≤ most_nodes }
-    ensures { PutsContainer pool.now nodes.now room parts text.old at result text.new }
+    ensures { let t = tables.now in PutsContainer t.pool.now t.nodes.now room parts text.old at result text.new }
 {
     if room == 0 {
         return Put::TooFar;
@@ -93,8 +91,8 @@ fn put_container(
     let mut next = at;
     for i in 0..count {
         let row = first + i;
-        let value = put_label(pool, nodes, text, next, keyed, row);
-        let written = put_node(pool, nodes, text, value, room - 1, row);
+        let value = put_label(tables, text, next, keyed, row);
+        let written = put_node(tables, text, value, room - 1, row);
         let Put::At(end) = written else {
             return Put::TooFar;
         };
@@ -105,14 +103,14 @@ fn put_container(
 
 // What was written before it was too far is nobody's.
 #[cycle(put_container_put_node)]
-pub fn put_node(pool: &[u8], nodes: &[u32], text: &mut [u8], at: usize, room: u32, row: u32) -> Put
-    requires { Parted nodes.now }
-    ensures { PutsNode pool.now nodes.now room row text.old at result text.new }
+pub fn put_node(tables: &Tables, text: &mut [u8], at: usize, room: u32, row: u32) -> Put
+    requires { let t = tables.now in Parted t.nodes.now }
+    ensures { let t = tables.now in PutsNode t.pool.now t.nodes.now room row text.old at result text.new }
 {
-    let node = node_at(nodes, row);
+    let node = node_at(tables.nodes, row);
     let shape = shape_of(node);
     let Shape::Container(parts) = shape else {
-        return Put::At(put_plain(pool, text, at, node));
+        return Put::At(put_plain(tables.pool, text, at, node));
     };
-    put_container(pool, nodes, text, at, room, parts)
+    put_container(tables, text, at, room, parts)
 }

@@ -19,4 +19,4 @@ abbrev pub decreases-open_set : goal.decreases-open_set
 decreases-open_set l = l.room * 4
 
 abbrev pub invariant-collect_fields-loop-i : goal.invariant-collect_fields-loop-i
-invariant-collect_fields-loop-i l = Going l.types l.members l.sets l.selections l.fragments l.nodes l.variables l.room l.object (record { first = l.first; count = l.count }) l.initial.list (record { visited = l.initial.visited; count = l.initial.fields }) l.list (record { visited = l.visited; count = l.fields }) l.i
+invariant-collect_fields-loop-i l = Going l.tables.types.now l.tables.members.now l.tables.sets.now l.tables.selections.now l.tables.fragments.now l.tables.nodes.now l.tables.variables.now l.room l.object (record { first = l.first; count = l.count }) l.initial.list (record { visited = l.initial.visited; count = l.initial.fields }) l.list (record { visited = l.visited; count = l.fields }) l.i

@@ -5,4 +5,4 @@ use Rattle.lookup.proofs.Searching.{Seeking}
 use Rattle.lookup.proofs.named.is_member.Given as goal
 
 abbrev pub invariant-loop-i : goal.invariant-loop-i
-invariant-loop-i l = Seeking (is_named l.pool l.names l.members l.string) (record { first = l.first; count = l.count }) l.i
+invariant-loop-i l = Seeking (is_named l.tables.pool.now l.tables.names.now l.tables.members.now l.string) (record { first = l.first; count = l.count }) l.i
