@@ -2,6 +2,7 @@
 ghost use Rattle.std.specs.Prelude.{◌≡◌, true, false, not, ◌||◌};
 ghost use Rattle.graphql.specs.Lookup.{variable_named};
 ghost use Rattle.graphql.specs.Collect.{variable_holds, holds};
+ghost use Rattle.tables.specs.Tables.{lent};
 
 use lookup::named::variable_named;
 use rows::document::Condition;
@@ -10,7 +11,7 @@ use rows::tables::Tables;
 
 // "A variable that is absent or not boolean counts as no directive."
 fn variable_holds(tables: &Tables, default: bool, name: u32) -> bool
-    ensures { let t = tables.now in result ≡ variable_holds t.variables.now t.nodes.now default (variable_named t.variables.now name) }
+    ensures { let t = lent tables.now in result ≡ variable_holds t.variables t.nodes default (variable_named t.variables name) }
 {
     let found = variable_named(tables.variables, name);
     let Some(row) = found else {
@@ -26,7 +27,7 @@ fn variable_holds(tables: &Tables, default: bool, name: u32) -> bool
 
 // Whether a directive's `if` holds; `default` is what counts where there is no directive.
 fn eval_if_arg(tables: &Tables, default: bool, condition: Condition) -> bool
-    ensures { let t = tables.now in result ≡ holds t.variables.now t.nodes.now default condition }
+    ensures { let t = lent tables.now in result ≡ holds t.variables t.nodes default condition }
 {
     match condition {
         Condition::Absent => default,
@@ -38,7 +39,7 @@ fn eval_if_arg(tables: &Tables, default: bool, condition: Condition) -> bool
 
 // "A selection is dropped if skip is true or include is false."
 pub fn is_dropped(tables: &Tables, skip: Condition, include: Condition) -> bool
-    ensures { let t = tables.now in result ≡ (holds t.variables.now t.nodes.now false skip || not (holds t.variables.now t.nodes.now true include)) }
+    ensures { let t = lent tables.now in result ≡ (holds t.variables t.nodes false skip || not (holds t.variables t.nodes true include)) }
 {
     let skipped = eval_if_arg(tables, false, skip);
     let included = eval_if_arg(tables, true, include);

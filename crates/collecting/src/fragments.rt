@@ -3,6 +3,7 @@ ghost use Rattle.std.specs.Prelude.{◌≡◌};
 ghost use Rattle.rows.specs.Schema.{type_at};
 ghost use Rattle.graphql.specs.Collect.{does_fragment_type_apply, inline_applies};
 ghost use Rattle.lookup.specs.Found.{Listed};
+ghost use Rattle.tables.specs.Tables.{lent};
 
 use lookup::named::{lists_name, type_named};
 use rows::schema::{TypeKind, type_at};
@@ -17,8 +18,8 @@ fn type_name(types: &[u32], row: u32) -> u32
 
 // "A fragment on an object applies to that object, on an interface to objects listing it, on a union to members."
 pub fn does_fragment_type_apply(tables: &Tables, object: u32, condition: u32) -> bool
-    requires { let t = tables.now in Listed t.types.now }
-    ensures { let t = tables.now in result ≡ does_fragment_type_apply t.types.now t.members.now object condition }
+    requires { let t = lent tables.now in Listed t.types }
+    ensures { let t = lent tables.now in result ≡ does_fragment_type_apply t.types t.members object condition }
 {
     let found = type_named(tables.types, condition);
     let Some(row) = found else {
@@ -36,8 +37,8 @@ pub fn does_fragment_type_apply(tables: &Tables, object: u32, condition: u32) ->
 
 // An inline fragment with no type applies to all.
 pub fn inline_applies(tables: &Tables, object: u32, condition: Option<u32>) -> bool
-    requires { let t = tables.now in Listed t.types.now }
-    ensures { let t = tables.now in result ≡ inline_applies t.types.now t.members.now object condition }
+    requires { let t = lent tables.now in Listed t.types }
+    ensures { let t = lent tables.now in result ≡ inline_applies t.types t.members object condition }
 {
     match condition {
         None => true,

@@ -11,6 +11,7 @@ ghost use Rattle.values.specs.Put.{Parted};
 ghost use Rattle.values.specs.Literals.{LiteralsParted};
 ghost use Rattle.echoing.specs.Source.{ArgumentsDiffer, definition_named, default_source, variable_source, SourceOf};
 ghost use Rattle.echoing.specs.Echo.{Shows, Echoes, EchoesVariable, EchoesFields, field_size, field_label, field_out, of_part, of_value, of_items, of_named, of_shape, of_field};
+ghost use Rattle.tables.specs.Tables.{lent};
 
 use input_coercion::arguments::given_argument;
 use input_coercion::check::{Form, Shape, given_for, items_of, literal_form};
@@ -26,37 +27,33 @@ use rows::schema::{
 };
 use rows::tables::Tables;
 use tokens::json::{put_null, put_string};
-use values::literal::{PutLiteral, put_literal};
-use values::node::{Put, put_node};
+use values::literal::put_literal;
+use values::node::put_node;
 use writing::place::close;
 use writing::write::put;
 
-// Where an argument's value stands: a variable's node, a literal at a type, a default; or it has none.
+// Where an argument's value stands: a variable's node, a literal at a type, a default.
 #[derive(Clone, Copy)]
 pub enum Source {
-    Absent,
     Node(u32),
     Literal { ty: u32, row: u32 },
     Default(u32),
 }
 
-fn default_source(default: Option<u32>) -> Source
+fn default_source(default: Option<u32>) -> Option<Source>
     ensures { result ≡ default_source default }
 {
-    match default {
-        None => Source::Absent,
-        Some(row) => Source::Default(row),
-    }
+    default.map(Source::Default)
 }
 
-fn variable_source(variables: &[u32], default: Option<u32>, name: u32) -> Source
+fn variable_source(variables: &[u32], default: Option<u32>, name: u32) -> Option<Source>
     ensures { result ≡ variable_source variables.now default (variable_named variables.now name) }
 {
     let Some(row) = variable_named(variables, name) else {
         return default_source(default);
     };
     let variable = variable_at(variables, row);
-    Source::Node(variable.node)
+    Some(Source::Node(variable.node))
 }
 
 // The definition of the argument of this name.
@@ -67,15 +64,18 @@ fn definition_named(arguments: &[u32], definitions: Range, name: u32) -> Option<
     find_word(arguments, ARGUMENT_WIDTH, ARGUMENT_NAME, definitions, name)
 }
 
-// The value of the argument of this name.
-pub fn argument_source(tables: &Tables, definitions: Range, written: Range, name: u32) -> Source
+// The value of the argument of this name, if it has one.
+pub fn argument_source(
+    tables: &Tables,
+    definitions: Range,
+    written: Range,
+    name: u32,
+) -> Option<Source>
     requires count_bound { (definitions.first + definitions.count ≤ most_rows) × (written.first + written.count ≤ most_rows) }
-    requires arguments_differ { let t = tables.now in ArgumentsDiffer t.arguments.now definitions }
-    ensures { let t = tables.now in SourceOf t.arguments.now t.given.now t.literals.now t.variables.now definitions written name result }
+    requires arguments_differ { let t = lent tables.now in ArgumentsDiffer t.arguments definitions }
+    ensures { let t = lent tables.now in SourceOf t.arguments t.given t.literals t.variables definitions written name result }
 {
-    let Some(row) = definition_named(tables.arguments, definitions, name) else {
-        return Source::Absent;
-    };
+    let row = definition_named(tables.arguments, definitions, name)?;
     let argument = argument_at(tables.arguments, row);
     let default = argument.default;
     let Some(at) = given_argument(tables.given, written, name) else {
@@ -85,65 +85,71 @@ pub fn argument_source(tables: &Tables, definitions: Range, written: Range, name
     let literal = value.literal;
     match literal_form(tables.literals, literal) {
         Form::Variable(variable) => variable_source(tables.variables, default, variable),
-        _ => Source::Literal {
+        _ => Some(Source::Literal {
             ty: argument.ty,
             row: literal,
-        },
+        }),
     }
 }
 
 // A literal that converts part by part and has been checked.
-pub fn put_checked_literal(tables: &Tables, text: &mut [u8], at: usize, room: u32, row: u32) -> Put
-    requires { let t = tables.now in LiteralsParted t.literals.now }
-    ensures { let t = tables.now in Echoes room (of_part t.pool.now t.names.now t.literals.now room row)
+pub fn put_checked_literal(
+    tables: &Tables,
+    text: &mut [u8],
+    at: usize,
+    room: u32,
+    row: u32,
+) -> Option<usize>
+    requires { let t = lent tables.now in LiteralsParted t.literals }
+    ensures { let t = lent tables.now in Echoes room (of_part t.pool t.names t.literals room row)
         text.old at result text.new }
 {
-    let PutLiteral::At(end) = put_literal(tables, text, at, room, row) else {
-        return Put::TooFar;
-    };
-    Put::At(end)
+    put_literal(tables, text, at, room, row).ok()
 }
 
-fn put_variable(tables: &Tables, text: &mut [u8], at: usize, room: u32, name: u32) -> Put
-    requires { let t = tables.now in Parted t.nodes.now }
-    ensures { let t = tables.now in EchoesVariable t.pool.now t.nodes.now t.variables.now room name
+fn put_variable(tables: &Tables, text: &mut [u8], at: usize, room: u32, name: u32) -> Option<usize>
+    requires { let t = lent tables.now in Parted t.nodes }
+    ensures { let t = lent tables.now in EchoesVariable t.pool t.nodes t.variables room name
         text.old at result text.new }
 {
     let Some(row) = variable_named(tables.variables, name) else {
-        return Put::At(put_null(text, at));
+        return Some(put_null(text, at));
     };
     let variable = variable_at(tables.variables, row);
     put_node(tables, text, at, room, variable.node)
 }
 
 #[cycle(put_coerced_put_input_field_put_input_object_put_items_put_named_put_shaped)]
-fn put_items(tables: &Tables, text: &mut [u8], at: usize, room: u32, inner: u32, rows: Range) -> Put
-    requires coercible { let t = tables.now in Coercible t.types.now t.nodes.now t.literals.now t.variables.now }
-    requires parted { let t = tables.now in Parted t.nodes.now }
+fn put_items(
+    tables: &Tables,
+    text: &mut [u8],
+    at: usize,
+    room: u32,
+    inner: u32,
+    rows: Range,
+) -> Option<usize>
+    requires coercible { let t = lent tables.now in Coercible t.types t.nodes t.literals t.variables }
+    requires parted { let t = lent tables.now in Parted t.nodes }
     requires count_bound { rows.first + rows.count ≤ 4294967296 }
-    ensures { let t = tables.now in Echoes room (of_items t.pool.now t.names.now t.type_refs.now t.types.now t.fields.now t.nodes.now t.literals.now t.variables.now
+    ensures { let t = lent tables.now in Echoes room (of_items t.pool t.names t.refs t.types t.fields t.nodes t.literals t.variables
         room inner (rows_in rows)) text.old at result text.new }
 {
     if room == 0 {
-        return Put::TooFar;
+        return None;
     }
     let first = rows.first;
     let count = rows.count;
     let mut next = at;
     for i in 0..count {
         let value = put(text, next, b',');
-        let written = put_coerced(tables, text, value, room - 1, inner, first + i);
-        let Put::At(end) = written else {
-            return Put::TooFar;
-        };
-        next = end;
+        next = put_coerced(tables, text, value, room - 1, inner, first + i)?;
     }
-    Put::At(close(text, at, next, b'[', b']'))
+    Some(close(text, at, next, b'[', b']'))
 }
 
 fn put_field_label(tables: &Tables, text: &mut [u8], at: usize, field: u32) -> usize
-    ensures { let t = tables.now in Writes text.old text.new at result
-        (field_label (name_text t.pool.now t.names.now (field_at t.fields.now field).name)) }
+    ensures { let t = lent tables.now in Writes text.old text.new at result
+        (field_label (name_text t.pool t.names (field_at t.fields field).name)) }
 {
     let def = field_at(tables.fields, field);
     let key = put(text, at, b',');
@@ -160,12 +166,12 @@ fn put_input_field(
     room: u32,
     given: Range,
     field: u32,
-) -> Put
-    requires coercible { let t = tables.now in Coercible t.types.now t.nodes.now t.literals.now t.variables.now }
-    requires parted { let t = tables.now in Parted t.nodes.now }
+) -> Option<usize>
+    requires coercible { let t = lent tables.now in Coercible t.types t.nodes t.literals t.variables }
+    requires parted { let t = lent tables.now in Parted t.nodes }
     requires count_bound { given.first + given.count ≤ most_literals }
-    ensures { let t = tables.now in Shows field_size (field_out t.pool.now t.names.now t.fields.now field) room
-        (of_field t.pool.now t.names.now t.type_refs.now t.types.now t.fields.now t.nodes.now t.literals.now t.variables.now
+    ensures { let t = lent tables.now in Shows field_size (field_out t.pool t.names t.fields field) room
+        (of_field t.pool t.names t.refs t.types t.fields t.nodes t.literals t.variables
         room (rows_in given) field) text.old at result text.new }
 {
     let def = field_at(tables.fields, field);
@@ -176,7 +182,7 @@ fn put_input_field(
         return put_coerced(tables, text, value, room, def.ty, row);
     }
     let Some(constant) = default else {
-        return Put::At(at);
+        return Some(at);
     };
     let value = put_field_label(tables, text, at, field);
     put_checked_literal(tables, text, value, room, constant)
@@ -190,29 +196,25 @@ fn put_input_object(
     room: u32,
     given: Range,
     declared: Range,
-) -> Put
-    requires coercible { let t = tables.now in Coercible t.types.now t.nodes.now t.literals.now t.variables.now }
-    requires parted { let t = tables.now in Parted t.nodes.now }
+) -> Option<usize>
+    requires coercible { let t = lent tables.now in Coercible t.types t.nodes t.literals t.variables }
+    requires parted { let t = lent tables.now in Parted t.nodes }
     requires count_bound { given.first + given.count ≤ most_literals }
     requires count_bound_2 { declared.first + declared.count ≤ most_fields }
-    ensures { let t = tables.now in EchoesFields t.pool.now t.names.now t.type_refs.now t.types.now t.fields.now
-        t.nodes.now t.literals.now t.variables.now
+    ensures { let t = lent tables.now in EchoesFields t.pool t.names t.refs t.types t.fields
+        t.nodes t.literals t.variables
         room (rows_in given) (rows_in declared) text.old at result text.new }
 {
     if room == 0 {
-        return Put::TooFar;
+        return None;
     }
     let first = declared.first;
     let count = declared.count;
     let mut next = at;
     for i in 0..count {
-        let written = put_input_field(tables, text, next, room - 1, given, first + i);
-        let Put::At(end) = written else {
-            return Put::TooFar;
-        };
-        next = end;
+        next = put_input_field(tables, text, next, room - 1, given, first + i)?;
     }
-    Put::At(close(text, at, next, b'{', b'}'))
+    Some(close(text, at, next, b'{', b'}'))
 }
 
 #[cycle(put_coerced_put_input_field_put_input_object_put_items_put_named_put_shaped)]
@@ -224,23 +226,21 @@ fn put_named(
     row: u32,
     shape: Shape,
     name: u32,
-) -> Put
-    requires coercible { let t = tables.now in Coercible t.types.now t.nodes.now t.literals.now t.variables.now }
-    requires parted { let t = tables.now in Parted t.nodes.now }
-    requires form_at { let t = tables.now in FormAt t.literals.now row (Form.Shaped shape) }
-    ensures { let t = tables.now in Echoes room (of_named t.pool.now t.names.now t.type_refs.now t.types.now t.fields.now t.nodes.now t.literals.now t.variables.now
+) -> Option<usize>
+    requires coercible { let t = lent tables.now in Coercible t.types t.nodes t.literals t.variables }
+    requires parted { let t = lent tables.now in Parted t.nodes }
+    requires form_at { let t = lent tables.now in FormAt t.literals row (Form.Shaped shape) }
+    ensures { let t = lent tables.now in Echoes room (of_named t.pool t.names t.refs t.types t.fields t.nodes t.literals t.variables
         room row shape name) text.old at result text.new }
 {
-    let Some(ty) = type_named(tables.types, name) else {
-        return Put::TooFar;
-    };
+    let ty = type_named(tables.types, name)?;
     let def = type_at(tables.types, ty);
     let kind = def.kind;
     let TypeKind::InputObject = kind else {
         return put_checked_literal(tables, text, at, room, row);
     };
     let Shape::Keyed(given) = shape else {
-        return Put::TooFar;
+        return None;
     };
     let declared = def.fields;
     put_input_object(tables, text, at, room, given, declared)
@@ -255,11 +255,11 @@ fn put_shaped(
     ty: u32,
     row: u32,
     shape: Shape,
-) -> Put
-    requires coercible { let t = tables.now in Coercible t.types.now t.nodes.now t.literals.now t.variables.now }
-    requires parted { let t = tables.now in Parted t.nodes.now }
-    requires form_at { let t = tables.now in FormAt t.literals.now row (Form.Shaped shape) }
-    ensures { let t = tables.now in Echoes room (of_shape t.pool.now t.names.now t.type_refs.now t.types.now t.fields.now t.nodes.now t.literals.now t.variables.now
+) -> Option<usize>
+    requires coercible { let t = lent tables.now in Coercible t.types t.nodes t.literals t.variables }
+    requires parted { let t = lent tables.now in Parted t.nodes }
+    requires form_at { let t = lent tables.now in FormAt t.literals row (Form.Shaped shape) }
+    ensures { let t = lent tables.now in Echoes room (of_shape t.pool t.names t.refs t.types t.fields t.nodes t.literals t.variables
         room ty row shape) text.old at result text.new }
 {
     match type_ref_at(tables.type_refs, ty) {
@@ -272,20 +272,27 @@ fn put_shaped(
             inner,
             items_of(row, shape),
         ),
-        TypeRef::Unknown => Put::TooFar,
+        TypeRef::Unknown => None,
     }
 }
 
 // A literal (a row) at a type reference (a row).
 #[cycle(put_coerced_put_input_field_put_input_object_put_items_put_named_put_shaped)]
-pub fn put_coerced(tables: &Tables, text: &mut [u8], at: usize, room: u32, ty: u32, row: u32) -> Put
-    requires coercible { let t = tables.now in Coercible t.types.now t.nodes.now t.literals.now t.variables.now }
-    requires parted { let t = tables.now in Parted t.nodes.now }
-    ensures { let t = tables.now in Echoes room (of_value t.pool.now t.names.now t.type_refs.now t.types.now t.fields.now t.nodes.now t.literals.now t.variables.now
+pub fn put_coerced(
+    tables: &Tables,
+    text: &mut [u8],
+    at: usize,
+    room: u32,
+    ty: u32,
+    row: u32,
+) -> Option<usize>
+    requires coercible { let t = lent tables.now in Coercible t.types t.nodes t.literals t.variables }
+    requires parted { let t = lent tables.now in Parted t.nodes }
+    ensures { let t = lent tables.now in Echoes room (of_value t.pool t.names t.refs t.types t.fields t.nodes t.literals t.variables
         room ty row) text.old at result text.new }
 {
     match literal_form(tables.literals, row) {
-        Form::Null => Put::At(put_null(text, at)),
+        Form::Null => Some(put_null(text, at)),
         Form::Variable(name) => put_variable(tables, text, at, room, name),
         Form::Shaped(shape) => put_shaped(tables, text, at, room, ty, row, shape),
     }

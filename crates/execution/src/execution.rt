@@ -1,18 +1,19 @@
 // Selection sets, lists and objects call one another; the path room falls at each field and item.
-ghost use Rattle.resolving.specs.Sound.{asking};
+ghost use Rattle.resolving.specs.Sound.{request_of};
 ghost use Rattle.execution.specs.Walk.{SetReady, FieldReady, StepReady, ItemsReady, ObjectReady, SetDone, ObjectDone, FieldDone, StepDone, ItemsDone};
+ghost use Rattle.tables.specs.Tables.{lent};
 
-use crate::ends::{done_apart, list_done, object_done, planned_to, stop_code};
+use crate::ends::{done_apart, list_done, object_done, planned_to};
 use ordering::order::{clear_spans, next_group, past_choice, put_in_place};
 use planning::layout::{SMALL_WORDS, definition, first_field, group_count};
-use planning::plan::{Planned, plan_apart, plan_for};
+use planning::plan::{plan_apart, plan_for};
 use resolving::field::{Container, Step, complete_item, execute_field};
 use resolving::resolve::Asked;
 use rows::layout::Range;
 use rows::tables::Tables;
 use walking::path::{Path, below};
 use walking::settle::{moved, past_list, placed, stopped};
-use walking::state::{Completed, Done, Kind, State};
+use walking::state::{Done, Kind, State};
 use writing::place::close;
 
 // The groups of a set have their spans so many words behind those of the set around it.
@@ -36,8 +37,8 @@ fn complete_items(
     rows: Range,
     s: State,
 ) -> Done
-    requires { let t = tables.now in ItemsReady (asking t.pool.now t.names.now t.type_refs.now t.types.now t.members.now t.fields.now t.arguments.now t.sets.now t.selections.now t.given.now t.fragments.now t.nodes.now t.literals.now t.variables.now t.answers.now) plans.old spans.old hints.old path s plan group asked rows }
-    ensures { let t = tables.now in ItemsDone (asking t.pool.now t.names.now t.type_refs.now t.types.now t.members.now t.fields.now t.arguments.now t.sets.now t.selections.now t.given.now t.fragments.now t.nodes.now t.literals.now t.variables.now t.answers.now) choices.now text.old errors.old plans.old spans.old hints.old path s plan group asked inner rows result text.new errors.new plans.new spans.new hints.new }
+    requires { ItemsReady (request_of (lent tables.now)) plans.old spans.old hints.old path s plan group asked rows }
+    ensures { ItemsDone (request_of (lent tables.now)) choices.now text.old errors.old plans.old spans.old hints.old path s plan group asked inner rows result text.new errors.new plans.new spans.new hints.new }
 {
     let first = rows.first;
     let count = rows.count;
@@ -60,12 +61,12 @@ fn complete_items(
         );
         state = d.state;
         let what = d.what;
-        let Completed::Placed(_) = what else {
+        if let Err(failure) = what {
             return Done {
-                what: what,
+                what: Err(failure),
                 state: moved(state, start),
             };
-        };
+        }
     }
     let end = close(text, start, state.at, b'[', b']');
     placed(state, end, Kind::List)
@@ -88,13 +89,15 @@ fn execute_apart(
     rows: Range,
     s: State,
 ) -> Done
-    requires { let t = tables.now in ObjectReady (asking t.pool.now t.names.now t.type_refs.now t.types.now t.members.now t.fields.now t.arguments.now t.sets.now t.selections.now t.given.now t.fragments.now t.nodes.now t.literals.now t.variables.now t.answers.now) plans.now spans.old hints.old path s plan group object rows }
-    ensures { let t = tables.now in ObjectDone (asking t.pool.now t.names.now t.type_refs.now t.types.now t.members.now t.fields.now t.arguments.now t.sets.now t.selections.now t.given.now t.fragments.now t.nodes.now t.literals.now t.variables.now t.answers.now) choices.now text.old errors.old plans.now spans.old hints.old path s plan group object rows result text.new errors.new plans.now spans.new hints.new }
+    requires { ObjectReady (request_of (lent tables.now)) plans.now spans.old hints.old path s plan group object rows }
+    ensures { ObjectDone (request_of (lent tables.now)) choices.now text.old errors.old plans.now spans.old hints.old path s plan group object rows result text.new errors.new plans.now spans.new hints.new }
 {
     let mut store = [0u16; SMALL_WORDS];
-    let planned = plan_apart(tables, plans, &mut store, plan, group, object);
-    let Planned::At { plan: own, top } = planned else {
-        return stopped(s, stop_code(planned));
+    let own = match plan_apart(tables, plans, &mut store, plan, group, object) {
+        Ok(own) => own,
+        Err(outcome) => {
+            return stopped(s, outcome);
+        }
     };
     let d = execute_selection_set(
         tables,
@@ -105,10 +108,10 @@ fn execute_apart(
         spans,
         hints,
         path,
-        own,
+        own.plan,
         object,
         rows,
-        planned_to(s, top),
+        planned_to(s, own.top),
     );
     done_apart(d, s.top)
 }
@@ -130,15 +133,15 @@ fn execute_object(
     rows: Range,
     s: State,
 ) -> Done
-    requires { let t = tables.now in ObjectReady (asking t.pool.now t.names.now t.type_refs.now t.types.now t.members.now t.fields.now t.arguments.now t.sets.now t.selections.now t.given.now t.fragments.now t.nodes.now t.literals.now t.variables.now t.answers.now) plans.old spans.old hints.old path s plan group object rows }
-    ensures { let t = tables.now in ObjectDone (asking t.pool.now t.names.now t.type_refs.now t.types.now t.members.now t.fields.now t.arguments.now t.sets.now t.selections.now t.given.now t.fragments.now t.nodes.now t.literals.now t.variables.now t.answers.now) choices.now text.old errors.old plans.old spans.old hints.old path s plan group object rows result text.new errors.new plans.new spans.new hints.new }
+    requires { ObjectReady (request_of (lent tables.now)) plans.old spans.old hints.old path s plan group object rows }
+    ensures { ObjectDone (request_of (lent tables.now)) choices.now text.old errors.old plans.old spans.old hints.old path s plan group object rows result text.new errors.new plans.new spans.new hints.new }
 {
-    let planned = plan_for(tables, plans, hints, s.top, plan, group, object);
-    match planned {
-        Planned::NoRoom => execute_apart(
+    match plan_for(tables, plans, hints, s.top, plan, group, object) {
+        Err(outcome) => stopped(s, outcome),
+        Ok(None) => execute_apart(
             tables, choices, text, errors, plans, spans, hints, path, plan, group, object, rows, s,
         ),
-        Planned::At { plan: own, top } => execute_selection_set(
+        Ok(Some(own)) => execute_selection_set(
             tables,
             choices,
             text,
@@ -147,12 +150,11 @@ fn execute_object(
             spans,
             hints,
             path,
-            own,
+            own.plan,
             object,
             rows,
-            planned_to(s, top),
+            planned_to(s, own.top),
         ),
-        _ => stopped(s, stop_code(planned)),
     }
 }
 
@@ -172,8 +174,8 @@ fn go_on(
     step: Step,
     s: State,
 ) -> Done
-    requires { let t = tables.now in StepReady (asking t.pool.now t.names.now t.type_refs.now t.types.now t.members.now t.fields.now t.arguments.now t.sets.now t.selections.now t.given.now t.fragments.now t.nodes.now t.literals.now t.variables.now t.answers.now) plans.old spans.old hints.old path s plan group step }
-    ensures { let t = tables.now in StepDone (asking t.pool.now t.names.now t.type_refs.now t.types.now t.members.now t.fields.now t.arguments.now t.sets.now t.selections.now t.given.now t.fragments.now t.nodes.now t.literals.now t.variables.now t.answers.now) choices.now text.old errors.old plans.old spans.old hints.old path s plan group step result text.new errors.new plans.new spans.new hints.new }
+    requires { StepReady (request_of (lent tables.now)) plans.old spans.old hints.old path s plan group step }
+    ensures { StepDone (request_of (lent tables.now)) choices.now text.old errors.old plans.old spans.old hints.old path s plan group step result text.new errors.new plans.new spans.new hints.new }
 {
     let deeper = match step {
         Step::Finished(d) => {
@@ -245,8 +247,8 @@ fn enter_field(
     rows: Range,
     s: State,
 ) -> Done
-    requires { let t = tables.now in FieldReady (asking t.pool.now t.names.now t.type_refs.now t.types.now t.members.now t.fields.now t.arguments.now t.sets.now t.selections.now t.given.now t.fragments.now t.nodes.now t.literals.now t.variables.now t.answers.now) plans.old spans.old hints.old path s plan group object rows }
-    ensures { let t = tables.now in FieldDone (asking t.pool.now t.names.now t.type_refs.now t.types.now t.members.now t.fields.now t.arguments.now t.sets.now t.selections.now t.given.now t.fragments.now t.nodes.now t.literals.now t.variables.now t.answers.now) choices.now text.old errors.old plans.old spans.old hints.old path s plan group object rows result text.new errors.new plans.new spans.new hints.new }
+    requires { FieldReady (request_of (lent tables.now)) plans.old spans.old hints.old path s plan group object rows }
+    ensures { FieldDone (request_of (lent tables.now)) choices.now text.old errors.old plans.old spans.old hints.old path s plan group object rows result text.new errors.new plans.new spans.new hints.new }
 {
     let step = execute_field(
         tables,
@@ -280,8 +282,8 @@ pub fn execute_selection_set(
     rows: Range,
     s: State,
 ) -> Done
-    requires { let t = tables.now in SetReady (asking t.pool.now t.names.now t.type_refs.now t.types.now t.members.now t.fields.now t.arguments.now t.sets.now t.selections.now t.given.now t.fragments.now t.nodes.now t.literals.now t.variables.now t.answers.now) plans.old spans.old hints.old path s plan object rows }
-    ensures { let t = tables.now in SetDone (asking t.pool.now t.names.now t.type_refs.now t.types.now t.members.now t.fields.now t.arguments.now t.sets.now t.selections.now t.given.now t.fragments.now t.nodes.now t.literals.now t.variables.now t.answers.now) choices.now text.old errors.old plans.old spans.old hints.old path s plan object rows result text.new errors.new plans.new spans.new hints.new }
+    requires { SetReady (request_of (lent tables.now)) plans.old spans.old hints.old path s plan object rows }
+    ensures { SetDone (request_of (lent tables.now)) choices.now text.old errors.old plans.old spans.old hints.old path s plan object rows result text.new errors.new plans.new spans.new hints.new }
 {
     let groups = group_count(plans, plan);
     let base = SPANS * path.count;
@@ -303,12 +305,12 @@ pub fn execute_selection_set(
         );
         state = d.state;
         let what = d.what;
-        let Completed::Placed(_) = what else {
+        if let Err(failure) = what {
             return past_list(Done {
-                what: what,
+                what: Err(failure),
                 state: moved(state, start),
             });
-        };
+        }
         low = put_in_place(
             text, spans, base, group, low, taken, start, next.at, state.at,
         );

@@ -4,9 +4,10 @@ ghost use Rattle.rows.specs.Limits.{most_rows};
 ghost use Rattle.graphql.specs.Lookup.{rows_in};
 ghost use Rattle.input_coercion.specs.Ends.{argument_fails, Checks};
 ghost use Rattle.input_coercion.specs.Coerced.{Parted, Valuable, Coercible, given_named, of_argument, of_arguments, ChecksDefault, ChecksVariable};
+ghost use Rattle.tables.specs.Tables.{lent};
 
 use crate::check::{
-    Coercion, Failure, Form, check_part_by_part, coerce_argument_value, literal_form, null_against,
+    Failure, Form, Uncoerced, check_part_by_part, coerce_argument_value, literal_form, null_against,
 };
 use codes::errors::FieldError;
 use lookup::find::find_word;
@@ -29,19 +30,19 @@ pub fn given_argument(given: &[u32], written: Range, name: u32) -> Option<u32>
 }
 
 // An argument fails at its definition's place.
-fn fail_argument(error: FieldError, argument: Argument) -> Coercion
+fn fail_argument(error: FieldError, argument: Argument) -> Result<(), Uncoerced>
     ensures { result ≡ argument_fails error argument }
 {
-    Coercion::Failed(Failure {
+    Err(Uncoerced::Failed(Failure {
         error: error,
         place: argument.place,
-    })
+    }))
 }
 
 // An argument that is not given, or given as an absent variable: its default, or missing.
-fn default_argument(tables: &Tables, argument: Argument) -> Coercion
-    requires { let t = tables.now in Parted t.literals.now }
-    ensures { let t = tables.now in ChecksDefault t.type_refs.now t.literals.now argument result }
+fn default_argument(tables: &Tables, argument: Argument) -> Result<(), Uncoerced>
+    requires { let t = lent tables.now in Parted t.literals }
+    ensures { let t = lent tables.now in ChecksDefault t.refs t.literals argument result }
 {
     let default = argument.default;
     match default {
@@ -50,15 +51,15 @@ fn default_argument(tables: &Tables, argument: Argument) -> Coercion
             if is_non_null(tables.type_refs, argument.ty) {
                 return fail_argument(FieldError::MissingArgument, argument);
             }
-            Coercion::Value
+            Ok(())
         }
     }
 }
 
-fn variable_argument(tables: &Tables, argument: Argument, name: u32) -> Coercion
-    requires parted { let t = tables.now in Parted t.literals.now }
-    requires valuable { let t = tables.now in Valuable t.nodes.now t.variables.now }
-    ensures { let t = tables.now in ChecksVariable t.type_refs.now t.nodes.now t.literals.now t.variables.now argument name result }
+fn variable_argument(tables: &Tables, argument: Argument, name: u32) -> Result<(), Uncoerced>
+    requires parted { let t = lent tables.now in Parted t.literals }
+    requires valuable { let t = lent tables.now in Valuable t.nodes t.variables }
+    ensures { let t = lent tables.now in ChecksVariable t.refs t.nodes t.literals t.variables argument name result }
 {
     let Some(variable) = variable_named(tables.variables, name) else {
         return default_argument(tables, argument);
@@ -66,13 +67,13 @@ fn variable_argument(tables: &Tables, argument: Argument, name: u32) -> Coercion
     if null_against(tables, argument.ty, variable) {
         return fail_argument(FieldError::NullArgument, argument);
     }
-    Coercion::Value
+    Ok(())
 }
 
-fn coerce_argument(tables: &Tables, written: Range, row: u32) -> Coercion
-    requires coercible { let t = tables.now in Coercible t.types.now t.nodes.now t.literals.now t.variables.now }
+fn coerce_argument(tables: &Tables, written: Range, row: u32) -> Result<(), Uncoerced>
+    requires coercible { let t = lent tables.now in Coercible t.types t.nodes t.literals t.variables }
     requires count_bound { written.first + written.count ≤ most_rows }
-    ensures { let t = tables.now in Checks (of_argument t.type_refs.now t.types.now t.fields.now t.nodes.now t.literals.now t.variables.now t.arguments.now t.given.now written row) result }
+    ensures { let t = lent tables.now in Checks (of_argument t.refs t.types t.fields t.nodes t.literals t.variables t.arguments t.given written row) result }
 {
     let argument = argument_at(tables.arguments, row);
     let Some(at) = given_argument(tables.given, written, argument.name) else {
@@ -85,25 +86,26 @@ fn coerce_argument(tables: &Tables, written: Range, row: u32) -> Coercion
             if is_non_null(tables.type_refs, argument.ty) {
                 return fail_argument(FieldError::NullArgument, argument);
             }
-            Coercion::Value
+            Ok(())
         }
         Form::Variable(name) => variable_argument(tables, argument, name),
         Form::Shaped(_) => coerce_argument_value(tables, MOST_OPEN, argument.ty, literal),
     }
 }
 
-pub fn coerce_argument_values(tables: &Tables, definitions: Range, written: Range) -> Coercion
-    requires coercible { let t = tables.now in Coercible t.types.now t.nodes.now t.literals.now t.variables.now }
+pub fn coerce_argument_values(
+    tables: &Tables,
+    definitions: Range,
+    written: Range,
+) -> Result<(), Uncoerced>
+    requires coercible { let t = lent tables.now in Coercible t.types t.nodes t.literals t.variables }
     requires count_bound { (definitions.first + definitions.count ≤ most_rows) × (written.first + written.count ≤ most_rows) }
-    ensures { let t = tables.now in Checks (of_arguments t.type_refs.now t.types.now t.fields.now t.nodes.now t.literals.now t.variables.now t.arguments.now t.given.now definitions written) result }
+    ensures { let t = lent tables.now in Checks (of_arguments t.refs t.types t.fields t.nodes t.literals t.variables t.arguments t.given definitions written) result }
 {
     let first = definitions.first;
     let count = definitions.count;
     for i in 0..count {
-        let argument = coerce_argument(tables, written, first + i);
-        let Coercion::Value = argument else {
-            return argument;
-        };
+        coerce_argument(tables, written, first + i)?;
     }
-    Coercion::Value
+    Ok(())
 }

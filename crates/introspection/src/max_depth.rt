@@ -1,6 +1,6 @@
 // The depth check: how deep an operation nests the lists that a schema can loop through.
 ghost use Rattle.std.specs.Prelude.{◌≡◌, ◌&&◌, [], ◌<◌, ◌-◌, max, leb, replicate};
-ghost use Rattle.tables.specs.Tables.{tables};
+ghost use Rattle.tables.specs.Tables.{lent};
 ghost use Rattle.rows.specs.Names.{'fields, 'inputFields};
 ghost use Rattle.graphql.specs.Depth.{check_set, answered, depth_report};
 ghost use Rattle.introspection.specs.MaxDepth.{Answers, meant, Walkable, ChecksSet, ChecksSelection, ChecksField, ChecksChild, ChecksSpread};
@@ -30,12 +30,11 @@ pub struct DepthAnswer {
     pub place: u32,
 }
 
-// How the check of a selection or of a set ends: a 33rd set would be open, too deep at a place, or a depth.
+// Why a selection or a set has no depth: a 33rd set would be open, or it is too deep at a place.
 #[derive(Clone, Copy)]
-pub enum Checked {
+pub enum Unmeasured {
     TooManySets,
     TooDeep(u32),
-    Depth(u32),
 }
 
 fn larger(a: u32, b: u32) -> u32
@@ -70,25 +69,22 @@ fn check_selection_set(
     room: u32,
     set: u32,
     depth_so_far: u32,
-) -> Checked
-    requires { let t = tables.now in Walkable t.sets.now t.fragments.now marks.old depth_so_far }
-    ensures { let t = tables.now in ChecksSet t.sets.now t.selections.now t.fragments.now marks.old room set depth_so_far result marks.new }
+) -> Result<u32, Unmeasured>
+    requires { let t = lent tables.now in Walkable t.sets t.fragments marks.old depth_so_far }
+    ensures { let t = lent tables.now in ChecksSet t.sets t.selections t.fragments marks.old room set depth_so_far result marks.new }
 {
     if room == 0 {
-        return Checked::TooManySets;
+        return Err(Unmeasured::TooManySets);
     }
     let range = set_at(tables.sets, set);
     let first = range.first;
     let count = range.count;
     let mut max_depth = depth_so_far;
     for i in 0..count {
-        let checked = check_selection(tables, marks, room - 1, first + i, depth_so_far);
-        let Checked::Depth(depth) = checked else {
-            return checked;
-        };
+        let depth = check_selection(tables, marks, room - 1, first + i, depth_so_far)?;
         max_depth = larger(max_depth, depth);
     }
-    Checked::Depth(max_depth)
+    Ok(max_depth)
 }
 
 #[cycle(check_child_set_check_field_check_selection_check_selection_set_check_spread)]
@@ -98,9 +94,9 @@ fn check_selection(
     room: u32,
     row: u32,
     depth_so_far: u32,
-) -> Checked
-    requires { let t = tables.now in Walkable t.sets.now t.fragments.now marks.old depth_so_far }
-    ensures { let t = tables.now in ChecksSelection t.sets.now t.selections.now t.fragments.now marks.old room row depth_so_far result marks.new }
+) -> Result<u32, Unmeasured>
+    requires { let t = lent tables.now in Walkable t.sets t.fragments marks.old depth_so_far }
+    ensures { let t = lent tables.now in ChecksSelection t.sets t.selections t.fragments marks.old room row depth_so_far result marks.new }
 {
     let selection = selection_at(tables.selections, row);
     let place = selection.place;
@@ -115,7 +111,7 @@ fn check_selection(
             set,
             depth_so_far,
         ),
-        Selected::Unknown => Checked::Depth(depth_so_far),
+        Selected::Unknown => Ok(depth_so_far),
     }
 }
 
@@ -127,16 +123,16 @@ fn check_field(
     place: u32,
     field: FieldSelection,
     depth_so_far: u32,
-) -> Checked
-    requires { let t = tables.now in Walkable t.sets.now t.fragments.now marks.old depth_so_far }
-    ensures { let t = tables.now in ChecksField t.sets.now t.selections.now t.fragments.now marks.old room place field depth_so_far result marks.new }
+) -> Result<u32, Unmeasured>
+    requires { let t = lent tables.now in Walkable t.sets t.fragments marks.old depth_so_far }
+    ensures { let t = lent tables.now in ChecksField t.sets t.selections t.fragments marks.old room place field depth_so_far result marks.new }
 {
     if !is_list(field.name) {
         return check_child_set(tables, marks, room, field, depth_so_far);
     }
     let depth = depth_so_far + 1;
     if depth >= MAX_LISTS_DEPTH {
-        return Checked::TooDeep(place);
+        return Err(Unmeasured::TooDeep(place));
     }
     check_child_set(tables, marks, room, field, depth)
 }
@@ -149,13 +145,13 @@ fn check_child_set(
     room: u32,
     field: FieldSelection,
     depth: u32,
-) -> Checked
-    requires { let t = tables.now in Walkable t.sets.now t.fragments.now marks.old depth }
-    ensures { let t = tables.now in ChecksChild t.sets.now t.selections.now t.fragments.now marks.old room field depth result marks.new }
+) -> Result<u32, Unmeasured>
+    requires { let t = lent tables.now in Walkable t.sets t.fragments marks.old depth }
+    ensures { let t = lent tables.now in ChecksChild t.sets t.selections t.fragments marks.old room field depth result marks.new }
 {
     let set = field.set;
     if set == 0 {
-        return Checked::Depth(depth);
+        return Ok(depth);
     }
     check_selection_set(tables, marks, room, set, depth)
 }
@@ -168,39 +164,36 @@ fn check_spread(
     place: u32,
     name: u32,
     depth_so_far: u32,
-) -> Checked
-    requires { let t = tables.now in Walkable t.sets.now t.fragments.now marks.old depth_so_far }
-    ensures { let t = tables.now in ChecksSpread t.sets.now t.selections.now t.fragments.now marks.old room place name depth_so_far result marks.new }
+) -> Result<u32, Unmeasured>
+    requires { let t = lent tables.now in Walkable t.sets t.fragments marks.old depth_so_far }
+    ensures { let t = lent tables.now in ChecksSpread t.sets t.selections t.fragments marks.old room place name depth_so_far result marks.new }
 {
     let found = fragment_named(tables.fragments, name);
     let Some(row) = found else {
-        return Checked::Depth(depth_so_far);
+        return Ok(depth_so_far);
     };
     let at = row as usize;
     let mark = marks[at];
     if mark != 0 {
         // depth_so_far + rise > MAX_LISTS_DEPTH, by a difference, which cannot wrap
         if mark - 1 > (MAX_LISTS_DEPTH - depth_so_far) as u64 {
-            return Checked::TooDeep(place);
+            return Err(Unmeasured::TooDeep(place));
         }
-        return Checked::Depth(depth_so_far);
+        return Ok(depth_so_far);
     }
     let fragment = fragment_at(tables.fragments, row);
     let set = fragment.set;
-    let checked = check_selection_set(tables, marks, room, set, depth_so_far);
-    let Checked::Depth(depth) = checked else {
-        return checked;
-    };
+    let depth = check_selection_set(tables, marks, room, set, depth_so_far)?;
     marks[at] = (rise(depth_so_far, depth) as u64) + 1;
-    Checked::Depth(depth)
+    Ok(depth)
 }
 
 // "A depth check that doesn't answer 8 gives place 0, and depth 0 unless its code is 0."
-fn answer(checked: Checked) -> DepthAnswer
+fn answer(checked: Result<u32, Unmeasured>) -> DepthAnswer
     ensures { Answers result (answered (meant checked)) }
 {
     match checked {
-        Checked::TooManySets => {
+        Err(Unmeasured::TooManySets) => {
             let outcome = Outcome::TooFar;
             DepthAnswer {
                 code: outcome.code(),
@@ -208,7 +201,7 @@ fn answer(checked: Checked) -> DepthAnswer
                 place: 0,
             }
         }
-        Checked::TooDeep(place) => {
+        Err(Unmeasured::TooDeep(place)) => {
             let outcome = Outcome::TooDeep;
             DepthAnswer {
                 code: outcome.code(),
@@ -216,7 +209,7 @@ fn answer(checked: Checked) -> DepthAnswer
                 place: place,
             }
         }
-        Checked::Depth(depth) => {
+        Ok(depth) => {
             let outcome = Outcome::Answered;
             DepthAnswer {
                 code: outcome.code(),
@@ -229,15 +222,15 @@ fn answer(checked: Checked) -> DepthAnswer
 
 // The depth of lawful tables' sets, from the operation's on.
 fn depth_of_operation(tables: &Tables) -> DepthAnswer
-    requires { let t = tables.now in Walkable t.sets.now t.fragments.now (replicate 64 0) 0 }
-    ensures { let t = tables.now in Answers result (answered (check_set t.sets.now t.selections.now t.fragments.now 32 0 0 [])) }
+    requires { let t = lent tables.now in Walkable t.sets t.fragments (replicate 64 0) 0 }
+    ensures { let t = lent tables.now in Answers result (answered (check_set t.sets t.selections t.fragments 32 0 0 [])) }
 {
     let mut marks = [0u64; 64];
     answer(check_selection_set(tables, &mut marks, MAX_OPEN_SETS, 0, 0))
 }
 
 pub fn depth_check(tables: &Tables) -> DepthAnswer
-    ensures { let t = tables.now in Answers result (depth_report (tables t.pool.now t.names.now t.type_refs.now t.types.now t.members.now t.fields.now t.arguments.now t.sets.now t.selections.now t.given.now t.fragments.now t.nodes.now t.literals.now t.variables.now t.answers.now t.root)) }
+    ensures { Answers result (depth_report (lent tables.now)) }
 {
     let lawful = table_check(tables);
     if lawful != LAWFUL {

@@ -9,6 +9,7 @@ ghost use Rattle.values.specs.Literals.{plain_literal};
 ghost use Rattle.values.specs.Put.{Parted};
 ghost use Rattle.leaves.specs.Leaves.{PutsLeaf, SortsLeaf, SpellsLeaf};
 ghost use Rattle.leaves.specs.Literals.{is_container, coerced_sort, bytes_of};
+ghost use Rattle.tables.specs.Tables.{lent};
 
 use echoing::echo::{put_checked_literal, put_coerced};
 use input_coercion::arguments::MOST_OPEN;
@@ -20,7 +21,7 @@ use rows::schema::{TypeKind, TypeRef, type_at, type_ref_at};
 use rows::strings::text_of;
 use rows::tables::Tables;
 use tokens::json::put_string;
-use values::node::{Put, put_node};
+use values::node::put_node;
 use values::sort::{Sort, literal_sort, sort_of};
 
 // An answer's node; a name, for `__typename`; an argument that is echoed: a literal at a type, or a default.
@@ -34,7 +35,7 @@ pub enum Leaf {
 
 // Whether a literal that is no null becomes a container at a type: it is wrapped there, or is an input object.
 fn is_container_type(tables: &Tables, ty: u32) -> bool
-    ensures { let t = tables.now in result ≡ is_container t.types.now (type_ref_at t.type_refs.now ty) }
+    ensures { let t = lent tables.now in result ≡ is_container t.types (type_ref_at t.refs ty) }
 {
     let TypeRef::Named { name, nullable: _ } = type_ref_at(tables.type_refs, ty) else {
         return true;
@@ -44,15 +45,12 @@ fn is_container_type(tables: &Tables, ty: u32) -> bool
     };
     let def = type_at(tables.types, row);
     let kind = def.kind;
-    let TypeKind::InputObject = kind else {
-        return false;
-    };
-    true
+    matches!(kind, TypeKind::InputObject)
 }
 
 // The sort of a literal at a type. It is asked for its form first: a literal of no known kind has the sort of null, and is wrapped all the same.
 fn coerced_sort(tables: &Tables, ty: u32, row: u32) -> Sort
-    ensures { let t = tables.now in result ≡ said (coerced_sort t.type_refs.now t.types.now t.literals.now ty row) }
+    ensures { let t = lent tables.now in result ≡ said (coerced_sort t.refs t.types t.literals ty row) }
 {
     if let Form::Null = literal_form(tables.literals, row) {
         return Sort::Null;
@@ -64,7 +62,7 @@ fn coerced_sort(tables: &Tables, ty: u32, row: u32) -> Sort
 }
 
 pub fn leaf_sort(tables: &Tables, leaf: Leaf) -> Sort
-    ensures { let t = tables.now in SortsLeaf t.type_refs.now t.types.now t.nodes.now t.literals.now leaf result }
+    ensures { let t = lent tables.now in SortsLeaf t.refs t.types t.nodes t.literals leaf result }
 {
     match leaf {
         Leaf::Node(row) => sort_of(tables.nodes, row),
@@ -75,7 +73,7 @@ pub fn leaf_sort(tables: &Tables, leaf: Leaf) -> Sort
 }
 
 fn literal_string<'a>(tables: &Tables<'a>, row: u32) -> &'a [u8]
-    ensures { let t = tables.now in result.now ≡ bytes_of (string_of (plain_literal t.pool.now t.names.now (literal_at t.literals.now row))) }
+    ensures { let t = lent tables.now in result.now ≡ bytes_of (string_of (plain_literal t.pool t.names (literal_at t.literals row))) }
 {
     match literal_at(tables.literals, row) {
         Literal::String(string) => text_of(tables.pool, string),
@@ -85,7 +83,7 @@ fn literal_string<'a>(tables: &Tables<'a>, row: u32) -> &'a [u8]
 }
 
 fn node_string<'a>(tables: &Tables<'a>, row: u32) -> &'a [u8]
-    ensures { let t = tables.now in result.now ≡ bytes_of (string_of (plain_value t.pool.now (node_at t.nodes.now row))) }
+    ensures { let t = lent tables.now in result.now ≡ bytes_of (string_of (plain_value t.pool (node_at t.nodes row))) }
 {
     match node_at(tables.nodes, row) {
         Node::String(string) => text_of(tables.pool, string),
@@ -95,7 +93,7 @@ fn node_string<'a>(tables: &Tables<'a>, row: u32) -> &'a [u8]
 
 // The bytes of a leaf that is a string.
 pub fn leaf_string<'a>(tables: &Tables<'a>, leaf: Leaf) -> &'a [u8]
-    ensures { let t = tables.now in SpellsLeaf t.pool.now t.names.now t.nodes.now t.literals.now leaf result.now }
+    ensures { let t = lent tables.now in SpellsLeaf t.pool t.names t.nodes t.literals leaf result.now }
 {
     match leaf {
         Leaf::Node(row) => node_string(tables, row),
@@ -105,20 +103,16 @@ pub fn leaf_string<'a>(tables: &Tables<'a>, leaf: Leaf) -> &'a [u8]
     }
 }
 
-// The text of a leaf; or too many containers are open in it.
-pub fn put_leaf(tables: &Tables, text: &mut [u8], at: usize, leaf: Leaf) -> Put
-    requires coercible { let t = tables.now in Coercible t.types.now t.nodes.now t.literals.now t.variables.now }
-    requires parted { let t = tables.now in Parted t.nodes.now }
-    ensures { let t = tables.now in PutsLeaf t.pool.now t.names.now t.type_refs.now t.types.now t.fields.now t.nodes.now t.literals.now t.variables.now leaf text.old at result text.new }
+// The text of a leaf, and the position after it; none where too many containers are open in it.
+pub fn put_leaf(tables: &Tables, text: &mut [u8], at: usize, leaf: Leaf) -> Option<usize>
+    requires coercible { let t = lent tables.now in Coercible t.types t.nodes t.literals t.variables }
+    requires parted { let t = lent tables.now in Parted t.nodes }
+    ensures { let t = lent tables.now in PutsLeaf t.pool t.names t.refs t.types t.fields t.nodes t.literals t.variables leaf text.old at result text.new }
 {
     match leaf {
         Leaf::Node(row) => put_node(tables, text, at, MOST_OPEN, row),
-        Leaf::Name(name) => Put::At(put_string(
-            text,
-            at,
-            name_text(tables.pool, tables.names, name),
-        )),
+        Leaf::Name(name) => Some(put_string(text, at, name_text(tables.pool, tables.names, name))),
         Leaf::Literal { ty, row } => put_coerced(tables, text, at, MOST_OPEN, ty, row),
-        Leaf::Default(row) => { put_checked_literal(tables, text, at, MOST_OPEN, row) }
+        Leaf::Default(row) => put_checked_literal(tables, text, at, MOST_OPEN, row),
     }
 }

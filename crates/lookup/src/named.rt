@@ -4,6 +4,7 @@ ghost use Rattle.rows.specs.Limits.{most_rows};
 ghost use Rattle.rows.specs.Schema.{type_at};
 ghost use Rattle.graphql.specs.Lookup.{rows_in, any, non_null, type_named, lists, has_value, field_named, fragment_named, variable_named, field_answer};
 ghost use Rattle.lookup.specs.Found.{is_named};
+ghost use Rattle.tables.specs.Tables.{lent};
 
 use crate::find::{find_in_table, find_word, has_word};
 use rows::answers::ANSWER_WIDTH;
@@ -43,8 +44,8 @@ pub fn variable_named(variables: &[u32], name: u32) -> Option<u32>
 
 // The field of this name in a type.
 pub fn field_named(tables: &Tables, ty: u32, name: u32) -> Option<u32>
-    requires { let t = tables.now in (type_at t.types.now ty).fields.first + (type_at t.types.now ty).fields.count ≤ most_rows }
-    ensures { let t = tables.now in result ≡ field_named t.types.now t.fields.now ty name }
+    requires { let t = lent tables.now in (type_at t.types ty).fields.first + (type_at t.types ty).fields.count ≤ most_rows }
+    ensures { let t = lent tables.now in result ≡ field_named t.types t.fields ty name }
 {
     let def = type_at(tables.types, ty);
     let rows = def.fields;
@@ -64,8 +65,8 @@ pub fn is_non_null(type_refs: &[u32], ty: u32) -> bool
 
 // Whether the name is one of the type's values, members or interfaces.
 pub fn lists_name(tables: &Tables, ty: u32, name: u32) -> bool
-    requires { let t = tables.now in (type_at t.types.now ty).members.first + (type_at t.types.now ty).members.count ≤ most_rows }
-    ensures { let t = tables.now in result ≡ lists t.types.now t.members.now ty name }
+    requires { let t = lent tables.now in (type_at t.types ty).members.first + (type_at t.types ty).members.count ≤ most_rows }
+    ensures { let t = lent tables.now in result ≡ lists t.types t.members ty name }
 {
     let def = type_at(tables.types, ty);
     let rows = def.members;
@@ -75,7 +76,7 @@ pub fn lists_name(tables: &Tables, ty: u32, name: u32) -> bool
 // Whether a string is the name of one of these members.
 fn is_member(tables: &Tables, rows: Range, string: &[u8]) -> bool
     requires { rows.first + rows.count ≤ most_rows }
-    ensures { let t = tables.now in result ≡ any (is_named t.pool.now t.names.now t.members.now string.now) (rows_in rows) }
+    ensures { let t = lent tables.now in result ≡ any (is_named t.pool t.names t.members string.now) (rows_in rows) }
 {
     let first = rows.first;
     let count = rows.count;
@@ -90,8 +91,8 @@ fn is_member(tables: &Tables, rows: Range, string: &[u8]) -> bool
 
 // Whether a string is the name of one of an enum's values.
 pub fn has_value(tables: &Tables, ty: u32, string: &[u8]) -> bool
-    requires { let t = tables.now in (type_at t.types.now ty).members.first + (type_at t.types.now ty).members.count ≤ most_rows }
-    ensures { let t = tables.now in result ≡ has_value t.pool.now t.names.now t.types.now t.members.now ty string.now }
+    requires { let t = lent tables.now in (type_at t.types ty).members.first + (type_at t.types ty).members.count ≤ most_rows }
+    ensures { let t = lent tables.now in result ≡ has_value t.pool t.names t.types t.members ty string.now }
 {
     let def = type_at(tables.types, ty);
     let rows = def.members;

@@ -4,11 +4,13 @@ ghost use Rattle.rows.specs.Document.{set_at};
 ghost use Rattle.codes.specs.Outcome.{most_open};
 ghost use Rattle.collecting.specs.Collecting.{Collectable, CollectsRows};
 ghost use Rattle.planning.specs.Plans.{members_of, most_words, fields_of, CollectsChild, CollectsOwned, Gathers, Lookable};
+ghost use Rattle.tables.specs.Tables.{lent};
 
 use crate::layout::{
     FIELD_GROUP, FIELD_SELECTION, field_count, first_field, group_count, group_row, word,
 };
-use collecting::collect::{Collecting, Gathered, collect_fields};
+use codes::outcome::Outcome;
+use collecting::collect::{Gathered, collect_fields};
 use rows::document::{field_selection, set_at};
 use rows::tables::Tables;
 
@@ -21,13 +23,13 @@ fn collect_child(
     object: u32,
     row: u32,
     gathered: Gathered,
-) -> Collecting
-    requires { let t = tables.now in Collectable t.types.now t.sets.now t.fragments.now list.old }
-    ensures { let t = tables.now in CollectsChild t.types.now t.members.now t.sets.now t.selections.now t.fragments.now t.nodes.now t.variables.now object row list.old gathered result list.new }
+) -> Result<Gathered, Outcome>
+    requires { let t = lent tables.now in Collectable t.types t.sets t.fragments list.old }
+    ensures { let t = lent tables.now in CollectsChild t.types t.members t.sets t.selections t.fragments t.nodes t.variables object row list.old gathered result list.new }
 {
     let field = field_selection(tables.selections, row);
     if field.set == 0 {
-        return Collecting::On(gathered);
+        return Ok(gathered);
     }
     let rows = set_at(tables.sets, field.set);
     collect_fields(tables, list, object, rows, MOST_OPEN, gathered)
@@ -42,13 +44,13 @@ fn collect_owned(
     row: usize,
     group: usize,
     gathered: Gathered,
-) -> Collecting
-    requires { let t = tables.now in Collectable t.types.now t.sets.now t.fragments.now list.old × (8 * row + 1 < length plans.now) }
-    ensures { let t = tables.now in CollectsOwned t.types.now t.members.now t.sets.now t.selections.now t.fragments.now t.nodes.now t.variables.now plans.now object row group list.old gathered result list.new }
+) -> Result<Gathered, Outcome>
+    requires { let t = lent tables.now in Collectable t.types t.sets t.fragments list.old × (8 * row + 1 < length plans.now) }
+    ensures { let t = lent tables.now in CollectsOwned t.types t.members t.sets t.selections t.fragments t.nodes t.variables plans.now object row group list.old gathered result list.new }
 {
     let owner = word(plans, row, FIELD_GROUP) as usize;
     if owner != group {
-        return Collecting::On(gathered);
+        return Ok(gathered);
     }
     let field = word(plans, row, FIELD_SELECTION) as u32;
     collect_child(tables, list, object, field, gathered)
@@ -63,28 +65,18 @@ fn collect_children(
     first: usize,
     fields: usize,
     group: usize,
-) -> Collecting
-    requires { let t = tables.now in Collectable t.types.now t.sets.now t.fragments.now list.old × (8 * (first + fields) ≤ length plans.now) × (length plans.now ≤ most_words) }
-    ensures { let t = tables.now in Gathers t.types.now t.members.now t.sets.now t.selections.now t.fragments.now t.nodes.now t.variables.now object (fields_of plans.now first group fields) list.old result list.new }
+) -> Result<Gathered, Outcome>
+    requires { let t = lent tables.now in Collectable t.types t.sets t.fragments list.old × (8 * (first + fields) ≤ length plans.now) × (length plans.now ≤ most_words) }
+    ensures { let t = lent tables.now in Gathers t.types t.members t.sets t.selections t.fragments t.nodes t.variables object (fields_of plans.now first group fields) list.old result list.new }
 {
-    let mut visited: u64 = 0;
-    let mut count: usize = 0;
+    let mut so_far = Gathered {
+        visited: 0,
+        count: 0,
+    };
     for i in 0..fields {
-        let so_far = Gathered {
-            visited: visited,
-            count: count,
-        };
-        let collecting = collect_owned(tables, plans, list, object, first + i, group, so_far);
-        let Collecting::On(next) = collecting else {
-            return collecting;
-        };
-        visited = next.visited;
-        count = next.count;
+        so_far = collect_owned(tables, plans, list, object, first + i, group, so_far)?;
     }
-    Collecting::On(Gathered {
-        visited: visited,
-        count: count,
-    })
+    Ok(so_far)
 }
 
 // The fields beneath a group.
@@ -95,9 +87,9 @@ pub fn collect_group(
     object: u32,
     plan: usize,
     group: usize,
-) -> Collecting
-    requires { let t = tables.now in Collectable t.types.now t.sets.now t.fragments.now list.old × Lookable plans.now plan group }
-    ensures { let t = tables.now in Gathers t.types.now t.members.now t.sets.now t.selections.now t.fragments.now t.nodes.now t.variables.now object (members_of plans.now plan group) list.old result list.new }
+) -> Result<Gathered, Outcome>
+    requires { let t = lent tables.now in Collectable t.types t.sets t.fragments list.old × Lookable plans.now plan group }
+    ensures { let t = lent tables.now in Gathers t.types t.members t.sets t.selections t.fragments t.nodes t.variables object (members_of plans.now plan group) list.old result list.new }
 {
     let groups = group_count(plans, plan);
     let fields = field_count(plans, plan);
@@ -113,9 +105,9 @@ pub fn collect_group(
 }
 
 // The fields of the operation's set.
-pub fn collect_operation(tables: &Tables, list: &mut [u16], root: u32) -> Collecting
-    requires { let t = tables.now in Collectable t.types.now t.sets.now t.fragments.now list.old }
-    ensures { let t = tables.now in CollectsRows t.types.now t.members.now t.sets.now t.selections.now t.fragments.now t.nodes.now t.variables.now most_open root (set_at t.sets.now 0) list.old (record { visited = 0; count = 0 }) result list.new }
+pub fn collect_operation(tables: &Tables, list: &mut [u16], root: u32) -> Result<Gathered, Outcome>
+    requires { let t = lent tables.now in Collectable t.types t.sets t.fragments list.old }
+    ensures { let t = lent tables.now in CollectsRows t.types t.members t.sets t.selections t.fragments t.nodes t.variables most_open root (set_at t.sets 0) list.old (record { visited = 0; count = 0 }) result list.new }
 {
     let none = Gathered {
         visited: 0,

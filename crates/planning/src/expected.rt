@@ -6,6 +6,7 @@ ghost use Rattle.rows.specs.Limits.{most_types};
 ghost use Rattle.rows.specs.Rows.{rows_of};
 ghost use Rattle.graphql.specs.Lookup.{type_named};
 ghost use Rattle.planning.specs.Expected.{with', expected_named, expected_at, Referred};
+ghost use Rattle.tables.specs.Tables.{lent};
 
 use lookup::named::type_named;
 use rows::schema::{TypeKind, TypeRef, type_at, type_ref_at};
@@ -65,8 +66,8 @@ fn expected_of(types: &[u32], name: u32, nullable: bool) -> Expected
 }
 
 pub fn expected_at(tables: &Tables, ty: u32) -> Expected
-    requires { let t = tables.now in Referred t.type_refs.now t.types.now }
-    ensures { let t = tables.now in result ≡ expected_at t.types.now (type_ref_at t.type_refs.now ty) }
+    requires { let t = lent tables.now in Referred t.refs t.types }
+    ensures { let t = lent tables.now in result ≡ expected_at t.types (type_ref_at t.refs ty) }
 {
     match type_ref_at(tables.type_refs, ty) {
         TypeRef::ListOf { inner, nullable } => with(nullable, LIST, inner),

@@ -6,6 +6,7 @@ ghost use Rattle.rows.specs.Schema.{type_at};
 ghost use Rattle.graphql.specs.Complete.{Definition, definition_of};
 ghost use Rattle.planning.specs.Expected.{Referred, expected_of};
 ghost use Rattle.planning.specs.Plans.{most_words, definition_code, schema, Which, PutRow, Groupable, Grouping, PutFields};
+ghost use Rattle.tables.specs.Tables.{lent};
 
 use crate::expected::{CARE, Expected, expected_at};
 use crate::layout::{
@@ -21,8 +22,8 @@ use rows::tables::Tables;
 const TYPENAME_NAME: u32 = 0;
 
 fn definition_of(tables: &Tables, object: u32, name: u32) -> u16
-    requires { let t = tables.now in (type_at t.types.now object).fields.first + (type_at t.types.now object).fields.count ≤ most_fields }
-    ensures { let t = tables.now in result ≡ definition_code (definition_of (schema t.types.now t.fields.now) object name) }
+    requires { let t = lent tables.now in (type_at t.types object).fields.first + (type_at t.types object).fields.count ≤ most_fields }
+    ensures { let t = lent tables.now in result ≡ definition_code (definition_of (schema t.types t.fields) object name) }
 {
     if name == TYPENAME_NAME {
         return TYPENAME;
@@ -48,8 +49,8 @@ fn group_with(plans: &[u16], first: usize, groups: usize, key: u32) -> usize
 
 // What is expected of a field that is defined and has no arguments.
 fn field_expected(tables: &Tables, own: u16, ty: u32) -> Expected
-    requires { let t = tables.now in Referred t.type_refs.now t.types.now }
-    ensures { let t = tables.now in (d : Option Definition) → own ≡ definition_code d → result ≡ expected_of t.type_refs.now t.types.now t.fields.now d ty }
+    requires { let t = lent tables.now in Referred t.refs t.types }
+    ensures { let t = lent tables.now in (d : Option Definition) → own ≡ definition_code d → result ≡ expected_of t.refs t.types t.fields d ty }
 {
     if own < DEFINED {
         return Expected { what: CARE, of: 0 };
@@ -70,9 +71,9 @@ fn put_group(
     field: FieldSelection,
     object: u32,
 )
-    requires referred { let t = tables.now in Referred t.type_refs.now t.types.now × ((type_at t.types.now object).fields.first + (type_at t.types.now object).fields.count ≤ most_fields) }
+    requires referred { let t = lent tables.now in Referred t.refs t.types × ((type_at t.types object).fields.first + (type_at t.types object).fields.count ≤ most_fields) }
     requires row_in_bounds { (8 * row + 8 ≤ length plans.old) × (field.name < 65536) × (field.key < 65536) }
-    ensures { let t = tables.now in PutRow t.type_refs.now t.types.now t.fields.now object row selection field plans.old plans.new }
+    ensures { let t = lent tables.now in PutRow t.refs t.types t.fields object row selection field plans.old plans.new }
 {
     let own = definition_of(tables, object, field.name);
     let wanted = field_expected(tables, own, field.ty);
@@ -96,8 +97,8 @@ fn put_field(
     i: usize,
     object: u32,
 ) -> usize
-    requires { let t = tables.now in Groupable t.type_refs.now t.types.now t.fields.now t.selections.now list.now first (i + 1) plans.old owners.old × (groups ≤ i) }
-    ensures { let t = tables.now in (before : List ℕ) → Grouping t.type_refs.now t.types.now t.fields.now t.selections.now list.now object first before plans.old owners.old groups i → Grouping t.type_refs.now t.types.now t.fields.now t.selections.now list.now object first before plans.new owners.new result (i + 1) }
+    requires { let t = lent tables.now in Groupable t.refs t.types t.fields t.selections list.now first (i + 1) plans.old owners.old × (groups ≤ i) }
+    ensures { let t = lent tables.now in (before : List ℕ) → Grouping t.refs t.types t.fields t.selections list.now object first before plans.old owners.old groups i → Grouping t.refs t.types t.fields t.selections list.now object first before plans.new owners.new result (i + 1) }
 {
     let selection = list[i];
     let field = field_selection(tables.selections, selection as u32);
@@ -120,8 +121,8 @@ pub fn put_groups(
     count: usize,
     object: u32,
 ) -> usize
-    requires { let t = tables.now in Groupable t.type_refs.now t.types.now t.fields.now t.selections.now list.now first count plans.old owners.old }
-    ensures { let t = tables.now in Grouping t.type_refs.now t.types.now t.fields.now t.selections.now list.now object first plans.old plans.new owners.new result count }
+    requires { let t = lent tables.now in Groupable t.refs t.types t.fields t.selections list.now first count plans.old owners.old }
+    ensures { let t = lent tables.now in Grouping t.refs t.types t.fields t.selections list.now object first plans.old plans.new owners.new result count }
 {
     let mut groups: usize = 0;
     for i in 0..count {

@@ -14,13 +14,15 @@ ghost use Rattle.resolving.specs.Sound.{Leads, Askable, Answerable, Itemizable};
 ghost use Rattle.resolving.specs.Steps.{keyed_by, ExecutesField, CompletesItem};
 ghost use Rattle.resolving.specs.Field.{Finishes, OpensList, OpensObject, OpensBehind, CompletesBehind, AnswersBehind, TypenameBehind};
 ghost use Rattle.resolving.specs.Field.{ResolvesField, answered_of, AnswersField, Known, Completable, Resolvable};
+ghost use Rattle.tables.specs.Tables.{lent};
 
-use crate::resolve::{Asked, Given, Resolved, complete_leaf_value, resolve_row};
+use crate::resolve::{Asked, Given, complete_leaf_value, resolve_row};
 use codes::errors::FieldError;
 use codes::outcome::Outcome;
-use completing::result_coercion::{Typed, object_type};
+use completing::result_coercion::object_type;
 use input_coercion::arguments::coerce_argument_values;
-use input_coercion::check::Coercion;
+use input_coercion::check as coercion;
+use input_coercion::check::Uncoerced;
 use leaves::leaf::Leaf;
 use lookup::named::{field_answer, is_non_null};
 use planning::layout::{DEFINED, TYPENAME, UNDEFINED};
@@ -32,7 +34,7 @@ use rows::tables::Tables;
 use tokens::json::put_string;
 use walking::path::{MOST_SEGMENTS, Path, index_segment, name_segment};
 use walking::settle::{fail, moved, settle, stopped, try_nullify};
-use walking::state::{Completed, Done, Failure, Kind, State};
+use walking::state::{Done, Failure, Kind, State};
 use writing::write::put;
 
 // A list of this type of items (its answers), or an object of this type (the answers to its fields).
@@ -66,25 +68,9 @@ pub enum Step {
     Deeper(Deeper),
 }
 
-// A list or an object at a type; or the error that it is there.
-#[derive(Clone, Copy)]
-pub enum Opened {
-    Container(Container),
-    Error(FieldError),
-}
-
-// What comes of a field's arguments and its answer: it is left out, a value is given, it fails, or the run ends with a code.
-#[derive(Clone, Copy)]
-pub enum Answered {
-    Skip,
-    Given(Given),
-    Failed { error: FieldError, place: u32 },
-    Stop(u32),
-}
-
 // A comma, the response key and a colon.
 fn put_key(tables: &Tables, text: &mut [u8], at: usize, key: u32) -> usize
-    ensures { let t = tables.now in Wrote text.old text.new at result (keyed_by (name_text t.pool.now t.names.now key)) }
+    ensures { let t = lent tables.now in Wrote text.old text.new at result (keyed_by (name_text t.pool t.names key)) }
 {
     let next = put(text, at, b',');
     let colon = put_string(text, next, name_text(tables.pool, tables.names, key));
@@ -92,16 +78,16 @@ fn put_key(tables: &Tables, text: &mut [u8], at: usize, key: u32) -> usize
 }
 
 // CompleteValue of a list, up to its items.
-fn open_list(type_refs: &[u32], ty: u32, rows: Range) -> Opened
+fn open_list(type_refs: &[u32], ty: u32, rows: Range) -> Result<Container, FieldError>
     ensures { OpensList type_refs.now ty rows result }
 {
     match type_ref_at(type_refs, ty) {
         TypeRef::Named {
             name: _,
             nullable: _,
-        } => Opened::Error(FieldError::ListForNonListType),
-        TypeRef::Unknown => Opened::Error(FieldError::UndefinedType),
-        TypeRef::ListOf { inner, nullable } => Opened::Container(Container::List {
+        } => Err(FieldError::ListForNonListType),
+        TypeRef::Unknown => Err(FieldError::UndefinedType),
+        TypeRef::ListOf { inner, nullable } => Ok(Container::List {
             inner: inner,
             nullable: nullable,
             rows: rows,
@@ -110,25 +96,23 @@ fn open_list(type_refs: &[u32], ty: u32, rows: Range) -> Opened
 }
 
 // CompleteValue of an object, up to its fields.
-fn open_object(tables: &Tables, ty: u32, name: u32, rows: Range) -> Opened
-    requires { let t = tables.now in Listed t.types.now × Known t.types.now }
-    ensures { let t = tables.now in OpensObject t.type_refs.now t.types.now t.members.now ty name rows result }
+fn open_object(tables: &Tables, ty: u32, name: u32, rows: Range) -> Result<Container, FieldError>
+    requires { let t = lent tables.now in Listed t.types × Known t.types }
+    ensures { let t = lent tables.now in OpensObject t.refs t.types t.members ty name rows result }
 {
-    match object_type(tables, ty, name) {
-        Typed::Error(error) => Opened::Error(error),
-        Typed::Type(object) => Opened::Container(Container::Object {
-            object: object,
-            rows: rows,
-        }),
-    }
+    let object = object_type(tables, ty, name)?;
+    Ok(Container::Object {
+        object: object,
+        rows: rows,
+    })
 }
 
 // A place that was left out.
 fn left_out(s: State) -> Done
-    ensures { result ≡ record { what = Completed.Placed Kind.LeftOut; state = s } }
+    ensures { result ≡ record { what = Ok Kind.LeftOut; state = s } }
 {
     Done {
-        what: Completed::Placed(Kind::LeftOut),
+        what: Ok(Kind::LeftOut),
         state: s,
     }
 }
@@ -149,18 +133,18 @@ fn deepen(
     asked: Asked,
     non_null: bool,
     start: usize,
-    opened: Opened,
+    opened: Result<Container, FieldError>,
     s: State,
 ) -> Step
     requires { path.count < 32 }
     ensures { OpensBehind path last asked non_null start opened text.old errors.old s result text.new errors.new }
 {
     match opened {
-        Opened::Error(error) => {
+        Err(error) => {
             let d = fail(errors, s, Failure::Here, error, asked.place, path, last);
             Step::Finished(finished(text, non_null, start, d))
         }
-        Opened::Container(container) => Step::Deeper(Deeper {
+        Ok(container) => Step::Deeper(Deeper {
             container: container,
             non_null: non_null,
             last: last,
@@ -184,9 +168,9 @@ fn complete_value(
     given: Given,
     s: State,
 ) -> Step
-    requires completable { let t = tables.now in Completable t.types.now t.nodes.now t.literals.now t.variables.now }
+    requires completable { let t = lent tables.now in Completable t.types t.nodes t.literals t.variables }
     requires count_bound { path.count < 32 }
-    ensures { let t = tables.now in CompletesBehind path last asked t.pool.now t.names.now t.type_refs.now t.types.now t.members.now t.fields.now t.nodes.now t.literals.now t.variables.now ty non_null start given text.old errors.old s result text.new errors.new }
+    ensures { let t = lent tables.now in CompletesBehind path last asked t.pool t.names t.refs t.types t.members t.fields t.nodes t.literals t.variables ty non_null start given text.old errors.old s result text.new errors.new }
 {
     match given {
         Given::Leaf(leaf) => {
@@ -208,48 +192,47 @@ fn complete_value(
 }
 
 // ResolveFieldValue: "no row is an error".
-fn resolve_field_value(tables: &Tables, asked: Asked, rows: Range, name: u32) -> Resolved
-    requires askable { let t = tables.now in Askable t.arguments.now asked × ((row : ℕ) → Leads (answer_at t.answers.now row)) }
+fn resolve_field_value(
+    tables: &Tables,
+    asked: Asked,
+    rows: Range,
+    name: u32,
+) -> Result<Option<Given>, FieldError>
+    requires askable { let t = lent tables.now in Askable t.arguments asked × ((row : ℕ) → Leads (answer_at t.answers row)) }
     requires count_bound { rows.first + rows.count ≤ most_answers }
-    ensures { let t = tables.now in ResolvesField t.arguments.now t.given.now t.literals.now t.variables.now t.answers.now asked rows name result }
+    ensures { let t = lent tables.now in ResolvesField t.arguments t.given t.literals t.variables t.answers asked rows name result }
 {
-    match field_answer(tables.answers, rows, name) {
-        None => Resolved::Error,
-        Some(row) => resolve_row(tables, asked, row),
-    }
+    let Some(row) = field_answer(tables.answers, rows, name) else {
+        return Err(FieldError::Resolver);
+    };
+    resolve_row(tables, asked, row)
 }
 
-// The resolver's error stands at the first field.
-fn answer_of(place: u32, resolved: Resolved) -> Answered
-    ensures { result ≡ answered_of place resolved }
+// A field's error stands at its first field.
+fn fail_field(place: u32, error: FieldError) -> Uncoerced
+    ensures { result ≡ Uncoerced.Failed (record { error = error; place = place }) }
 {
-    match resolved {
-        Resolved::Skip => Answered::Skip,
-        Resolved::Error => Answered::Failed {
-            error: FieldError::Resolver,
-            place: place,
-        },
-        Resolved::Given(given) => Answered::Given(given),
-    }
+    Uncoerced::Failed(coercion::Failure {
+        error: error,
+        place: place,
+    })
 }
 
-// The arguments of a field, and its answer.
-fn answer_field(tables: &Tables, asked: Asked, rows: Range, name: u32) -> Answered
-    requires coercible { let t = tables.now in Coercible t.types.now t.nodes.now t.literals.now t.variables.now × Resolvable t.arguments.now t.nodes.now t.answers.now asked }
+// The arguments of a field, and its answer: what is given, nothing where it is left out; or the field fails, or the run stops.
+fn answer_field(
+    tables: &Tables,
+    asked: Asked,
+    rows: Range,
+    name: u32,
+) -> Result<Option<Given>, Uncoerced>
+    requires coercible { let t = lent tables.now in Coercible t.types t.nodes t.literals t.variables × Resolvable t.arguments t.nodes t.answers asked }
     requires count_bound { rows.first + rows.count ≤ most_answers }
-    ensures { let t = tables.now in AnswersField t.type_refs.now t.types.now t.fields.now t.arguments.now t.given.now t.nodes.now t.literals.now t.variables.now t.answers.now asked rows name result }
+    ensures { let t = lent tables.now in AnswersField t.refs t.types t.fields t.arguments t.given t.nodes t.literals t.variables t.answers asked rows name result }
 {
-    match coerce_argument_values(tables, asked.definitions, asked.written) {
-        Coercion::Value => answer_of(asked.place, resolve_field_value(tables, asked, rows, name)),
-        Coercion::Failed(failure) => {
-            let error = failure.error;
-            Answered::Failed {
-                error: error,
-                place: failure.place,
-            }
-        }
-        Coercion::TooFar => Answered::Stop(Outcome::TooFar.code()),
-        Coercion::VariableInLiteral => Answered::Stop(Outcome::VariableInLiteral.code()),
+    coerce_argument_values(tables, asked.definitions, asked.written)?;
+    match resolve_field_value(tables, asked, rows, name) {
+        Ok(given) => Ok(given),
+        Err(error) => Err(fail_field(asked.place, error)),
     }
 }
 
@@ -264,23 +247,26 @@ fn complete_answered(
     ty: u32,
     non_null: bool,
     start: usize,
-    answer: Answered,
+    answer: Result<Option<Given>, Uncoerced>,
     s: State,
 ) -> Step
-    requires completable { let t = tables.now in Completable t.types.now t.nodes.now t.literals.now t.variables.now }
+    requires completable { let t = lent tables.now in Completable t.types t.nodes t.literals t.variables }
     requires count_bound { path.count < 32 }
-    ensures { let t = tables.now in AnswersBehind path last asked t.pool.now t.names.now t.type_refs.now t.types.now t.members.now t.fields.now t.nodes.now t.literals.now t.variables.now ty non_null start answer text.old errors.old s result text.new errors.new }
+    ensures { let t = lent tables.now in AnswersBehind path last asked t.pool t.names t.refs t.types t.members t.fields t.nodes t.literals t.variables ty non_null start answer text.old errors.old s result text.new errors.new }
 {
     match answer {
-        Answered::Skip => Step::Finished(left_out(moved(s, start))),
-        Answered::Given(given) => complete_value(
+        Ok(None) => Step::Finished(left_out(moved(s, start))),
+        Ok(Some(given)) => complete_value(
             tables, text, errors, path, last, asked, ty, non_null, start, given, s,
         ),
-        Answered::Failed { error, place } => {
-            let d = fail(errors, s, Failure::Here, error, place, path, last);
+        Err(Uncoerced::Failed(failure)) => {
+            let error = failure.error;
+            let d = fail(errors, s, Failure::Here, error, failure.place, path, last);
             Step::Finished(finished(text, non_null, start, d))
         }
-        Answered::Stop(code) => Step::Finished(finished(text, non_null, start, stopped(s, code))),
+        Err(Uncoerced::Stop(outcome)) => {
+            Step::Finished(finished(text, non_null, start, stopped(s, outcome)))
+        }
     }
 }
 
@@ -297,9 +283,9 @@ fn execute_typename(
     start: usize,
     s: State,
 ) -> Done
-    requires completable { let t = tables.now in Completable t.types.now t.nodes.now t.literals.now t.variables.now }
+    requires completable { let t = lent tables.now in Completable t.types t.nodes t.literals t.variables }
     requires count_bound { path.count < 32 }
-    ensures { let t = tables.now in TypenameBehind path last t.pool.now t.names.now t.type_refs.now t.types.now t.members.now t.fields.now t.nodes.now t.literals.now t.variables.now place ty object start text.old errors.old s result text.new errors.new }
+    ensures { let t = lent tables.now in TypenameBehind path last t.pool t.names t.refs t.types t.members t.fields t.nodes t.literals t.variables place ty object start text.old errors.old s result text.new errors.new }
 {
     let def = type_at(tables.types, object);
     let d = complete_leaf_value(
@@ -328,16 +314,16 @@ pub fn execute_field(
     rows: Range,
     s: State,
 ) -> Step
-    requires answerable { let t = tables.now in Answerable t.types.now t.fields.now t.arguments.now t.selections.now t.nodes.now t.literals.now t.variables.now t.answers.now }
+    requires answerable { let t = lent tables.now in Answerable t.types t.fields t.arguments t.selections t.nodes t.literals t.variables t.answers }
     requires count_bound { (path.count ≤ 32) × (rows.first + rows.count ≤ most_answers) }
-    requires field_row { let t = tables.now in FieldRow t.selections.now first × (own ≡ definition_code (definition_of (schema t.types.now t.fields.now) object (field_selection t.selections.now first).name)) }
-    ensures { let t = tables.now in ExecutesField t.pool.now t.names.now t.type_refs.now t.types.now t.members.now t.fields.now t.arguments.now t.selections.now t.given.now t.nodes.now t.literals.now t.variables.now t.answers.now path first object rows text.old errors.old s result text.new errors.new }
+    requires field_row { let t = lent tables.now in FieldRow t.selections first × (own ≡ definition_code (definition_of (schema t.types t.fields) object (field_selection t.selections first).name)) }
+    ensures { let t = lent tables.now in ExecutesField t.pool t.names t.refs t.types t.members t.fields t.arguments t.selections t.given t.nodes t.literals t.variables t.answers path first object rows text.old errors.old s result text.new errors.new }
 {
     if own == UNDEFINED {
         return Step::Finished(left_out(s));
     }
     if MOST_SEGMENTS <= path.count {
-        return Step::Finished(stopped(s, Outcome::TooFar.code()));
+        return Step::Finished(stopped(s, Outcome::TooFar));
     }
     let field = field_selection(tables.selections, first);
     let place = selection_place(tables.selections, first);
@@ -385,26 +371,26 @@ pub fn complete_item(
     row: u32,
     s: State,
 ) -> Step
-    requires itemizable { let t = tables.now in Itemizable t.types.now t.arguments.now t.nodes.now t.literals.now t.variables.now t.answers.now asked }
+    requires itemizable { let t = lent tables.now in Itemizable t.types t.arguments t.nodes t.literals t.variables t.answers asked }
     requires count_bound { (path.count ≤ 32) × (index < 4096) }
-    ensures { let t = tables.now in CompletesItem t.pool.now t.names.now t.type_refs.now t.types.now t.members.now t.fields.now t.arguments.now t.given.now t.nodes.now t.literals.now t.variables.now t.answers.now path index asked inner row text.old errors.old s result text.new errors.new }
+    ensures { let t = lent tables.now in CompletesItem t.pool t.names t.refs t.types t.members t.fields t.arguments t.given t.nodes t.literals t.variables t.answers path index asked inner row text.old errors.old s result text.new errors.new }
 {
     if MOST_SEGMENTS <= path.count {
-        return Step::Finished(stopped(s, Outcome::TooFar.code()));
+        return Step::Finished(stopped(s, Outcome::TooFar));
     }
     let last = index_segment(index);
     match resolve_row(tables, asked, row) {
-        Resolved::Skip => Step::Finished(left_out(s)),
-        Resolved::Error => Step::Finished(fail(
+        Ok(None) => Step::Finished(left_out(s)),
+        Err(error) => Step::Finished(fail(
             errors,
             s,
             Failure::PastList,
-            FieldError::Resolver,
+            error,
             asked.place,
             path,
             last,
         )),
-        Resolved::Given(value) => {
+        Ok(Some(value)) => {
             let start = s.at;
             let open = moved(s, put(text, start, b','));
             complete_value(

@@ -1,6 +1,6 @@
 // The rules one at a time: how many rows a rule speaks of, and whether it holds at one.
 ghost use Rattle.std.specs.Prelude.{◌≡◌};
-ghost use Rattle.tables.specs.Tables.{tables};
+ghost use Rattle.tables.specs.Tables.{lent};
 ghost use Rattle.rulebook.specs.Chapters.{schema_tables, document_tables, value_tables};
 ghost use Rattle.tables.specs.Rules.{size_holds, schema_says, document_says, value_says, rows_for, holds_at};
 
@@ -34,7 +34,7 @@ use rules::schema::{
 use tables::rule::{DocumentRule, Rule, SchemaRule, SizeRule, ValueRule};
 
 fn size_holds(rule: SizeRule, tables: &Tables) -> bool
-    ensures { let t = tables.now in result ≡ size_holds rule (tables t.pool.now t.names.now t.type_refs.now t.types.now t.members.now t.fields.now t.arguments.now t.sets.now t.selections.now t.given.now t.fragments.now t.nodes.now t.literals.now t.variables.now t.answers.now t.root) }
+    ensures { result ≡ size_holds rule (lent tables.now) }
 {
     match rule {
         SizeRule::Pool => tables.pool.len() <= MOST_BYTES,
@@ -56,7 +56,7 @@ fn size_holds(rule: SizeRule, tables: &Tables) -> bool
 
 // How many rows the rule speaks of.
 fn schema_rows(rule: SchemaRule, tables: &Tables, root: u32) -> u32
-    ensures { let t = tables.now in result ≡ (schema_says rule (schema_tables t.pool.now t.names.now t.type_refs.now t.types.now t.members.now t.fields.now t.arguments.now t.literals.now root)).rows }
+    ensures { let t = lent tables.now in result ≡ (schema_says rule (schema_tables t.pool t.names t.refs t.types t.members t.fields t.arguments t.literals root)).rows }
 {
     match rule {
         SchemaRule::NameSpelled => row_count(tables.names, NAME_WIDTH),
@@ -76,7 +76,7 @@ fn schema_rows(rule: SchemaRule, tables: &Tables, root: u32) -> u32
 }
 
 fn schema_holds(rule: SchemaRule, tables: &Tables, root: u32, row: u32) -> bool
-    ensures { let t = tables.now in result ≡ (schema_says rule (schema_tables t.pool.now t.names.now t.type_refs.now t.types.now t.members.now t.fields.now t.arguments.now t.literals.now root)).holds row }
+    ensures { let t = lent tables.now in result ≡ (schema_says rule (schema_tables t.pool t.names t.refs t.types t.members t.fields t.arguments t.literals root)).holds row }
 {
     match rule {
         SchemaRule::NameSpelled => name_is_spelled(tables.pool, tables.names, row),
@@ -120,7 +120,7 @@ fn schema_holds(rule: SchemaRule, tables: &Tables, root: u32, row: u32) -> bool
 
 // How many rows the rule speaks of.
 fn document_rows(rule: DocumentRule, tables: &Tables) -> u32
-    ensures { let t = tables.now in result ≡ (document_says rule (document_tables t.names.now t.type_refs.now t.sets.now t.selections.now t.given.now t.fragments.now t.literals.now)).rows }
+    ensures { let t = lent tables.now in result ≡ (document_says rule (document_tables t.names t.refs t.sets t.selections t.given t.fragments t.literals)).rows }
 {
     match rule {
         DocumentRule::SetRow => row_count(tables.sets, SET_WIDTH),
@@ -136,7 +136,7 @@ fn document_rows(rule: DocumentRule, tables: &Tables) -> u32
 }
 
 fn document_holds(rule: DocumentRule, tables: &Tables, row: u32) -> bool
-    ensures { let t = tables.now in result ≡ (document_says rule (document_tables t.names.now t.type_refs.now t.sets.now t.selections.now t.given.now t.fragments.now t.literals.now)).holds row }
+    ensures { let t = lent tables.now in result ≡ (document_says rule (document_tables t.names t.refs t.sets t.selections t.given t.fragments t.literals)).holds row }
 {
     match rule {
         DocumentRule::SetRow => set_row(
@@ -178,7 +178,7 @@ fn document_holds(rule: DocumentRule, tables: &Tables, row: u32) -> bool
 
 // How many rows the rule speaks of.
 fn value_rows(rule: ValueRule, tables: &Tables) -> u32
-    ensures { let t = tables.now in result ≡ (value_says rule (value_tables t.pool.now t.names.now t.nodes.now t.literals.now t.variables.now t.answers.now)).rows }
+    ensures { let t = lent tables.now in result ≡ (value_says rule (value_tables t.pool t.names t.nodes t.literals t.variables t.answers)).rows }
 {
     match rule {
         ValueRule::NodeRow => row_count(tables.nodes, NODE_WIDTH),
@@ -195,7 +195,7 @@ fn value_rows(rule: ValueRule, tables: &Tables) -> u32
 }
 
 fn value_holds(rule: ValueRule, tables: &Tables, row: u32) -> bool
-    ensures { let t = tables.now in result ≡ (value_says rule (value_tables t.pool.now t.names.now t.nodes.now t.literals.now t.variables.now t.answers.now)).holds row }
+    ensures { let t = lent tables.now in result ≡ (value_says rule (value_tables t.pool t.names t.nodes t.literals t.variables t.answers)).holds row }
 {
     match rule {
         ValueRule::NodeRow => node_row(
@@ -237,7 +237,7 @@ fn value_holds(rule: ValueRule, tables: &Tables, row: u32) -> bool
 
 // How many rows a rule speaks of.
 pub fn rule_rows(rule: Rule, tables: &Tables) -> u32
-    ensures { let t = tables.now in result ≡ rows_for rule (tables t.pool.now t.names.now t.type_refs.now t.types.now t.members.now t.fields.now t.arguments.now t.sets.now t.selections.now t.given.now t.fragments.now t.nodes.now t.literals.now t.variables.now t.answers.now t.root) }
+    ensures { result ≡ rows_for rule (lent tables.now) }
 {
     match rule {
         Rule::Size(_) => 1,
@@ -249,7 +249,7 @@ pub fn rule_rows(rule: Rule, tables: &Tables) -> u32
 
 // Whether a rule holds at one of them.
 pub fn rule_holds_at(rule: Rule, tables: &Tables, row: u32) -> bool
-    ensures { let t = tables.now in result ≡ holds_at rule (tables t.pool.now t.names.now t.type_refs.now t.types.now t.members.now t.fields.now t.arguments.now t.sets.now t.selections.now t.given.now t.fragments.now t.nodes.now t.literals.now t.variables.now t.answers.now t.root) row }
+    ensures { result ≡ holds_at rule (lent tables.now) row }
 {
     match rule {
         Rule::Size(r) => size_holds(r, tables),

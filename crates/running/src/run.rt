@@ -1,21 +1,21 @@
 // The two runs: in document order, and in a given order.
 ghost use Rattle.std.specs.Prelude.{◌≡◌, true, length};
-ghost use Rattle.tables.specs.Tables.{tables};
+ghost use Rattle.tables.specs.Tables.{lent};
 ghost use Rattle.tables.specs.Lawful.{lawful};
 ghost use Rattle.rows.specs.Answers.{answer_at};
 ghost use Rattle.graphql.specs.Complete.{rows_of_object, execute};
 ghost use Rattle.graphql.specs.Report.{report, report_in_order, Reports};
 ghost use Rattle.walking.specs.Gives.{as_data, Gives};
-ghost use Rattle.running.specs.Running.{refusal_of, at_start, stopped_by};
+ghost use Rattle.running.specs.Running.{refused_with, refusal_of, at_start};
 
 use crate::introspect::introspects;
 use crate::report::{refuse, report_end};
 use codes::outcome::Outcome;
 use codes::report::Reported;
-use execution::ends::stop_code;
+use execution::ends::planned_to;
 use execution::execution::execute_selection_set;
 use planning::layout::STORE_WORDS;
-use planning::plan::{Planned, plan_operation};
+use planning::plan::plan_operation;
 use rows::answers::{Answer, answer_at};
 use rows::layout::Range;
 use rows::tables::Tables;
@@ -29,21 +29,20 @@ const SPAN_WORDS: usize = 4224;
 
 const HINTS: usize = 1024;
 
-// "1 before 2 before the walk": why a run is refused without a walk, or 0.
-fn refusal(tables: &Tables, choices: usize, text: usize, errors: usize) -> u32
-    ensures { let t = tables.now in result ≡ refusal_of (tables t.pool.now t.names.now t.type_refs.now t.types.now t.members.now t.fields.now t.arguments.now t.sets.now t.selections.now t.given.now t.fragments.now t.nodes.now t.literals.now t.variables.now t.answers.now t.root) choices text errors }
+// "1 before 2 before the walk": why a run is refused without a walk, if it is.
+fn refusal(tables: &Tables, choices: usize, text: usize, errors: usize) -> Option<Outcome>
+    ensures { refused_with result ≡ refusal_of (lent tables.now) choices text errors }
 {
-    let code = table_check(tables);
-    if code != LAWFUL {
-        return Outcome::Unlawful.code();
+    if table_check(tables) != LAWFUL {
+        return Some(Outcome::Unlawful);
     }
     if !(buffers_are_lawful(text, errors) & choices_are_lawful(choices)) {
-        return Outcome::Unlawful.code();
+        return Some(Outcome::Unlawful);
     }
     if introspects(tables.selections) {
-        return Outcome::AsksForSchema.code();
+        return Some(Outcome::AsksForSchema);
     }
-    Outcome::Answered.code()
+    None
 }
 
 // The rows that answer the fields of the root.
@@ -57,30 +56,27 @@ fn root_rows(answers: &[u32]) -> Range
     Range { first: 0, count: 0 }
 }
 
-// A walk that stops before its first field, and why.
-fn stopped_at_start(planned: Planned) -> Done
-    ensures { result ≡ stopped_by planned }
-{
-    let s = State {
-        at: 0,
-        errs: 0,
-        choice: 0,
-        top: 0,
-    };
-    stopped(s, stop_code(planned))
-}
+// How a run stands before its first field.
+const START: State = State {
+    at: 0,
+    errs: 0,
+    choice: 0,
+    top: 0,
+};
 
 // The walk of lawful tables, from nothing written.
 fn execute_operation(tables: &Tables, choices: &[u32], text: &mut [u8], errors: &mut [u32]) -> Done
-    requires { let t = tables.now in lawful (tables t.pool.now t.names.now t.type_refs.now t.types.now t.members.now t.fields.now t.arguments.now t.sets.now t.selections.now t.given.now t.fragments.now t.nodes.now t.literals.now t.variables.now t.answers.now t.root) ≡ true }
-    ensures { let t = tables.now in Gives as_data choices.now text.old errors.old at_start (execute (record { tables = tables t.pool.now t.names.now t.type_refs.now t.types.now t.members.now t.fields.now t.arguments.now t.sets.now t.selections.now t.given.now t.fragments.now t.nodes.now t.literals.now t.variables.now t.answers.now t.root }) choices.now) result text.new errors.new }
+    requires { lawful (lent tables.now) ≡ true }
+    ensures { Gives as_data choices.now text.old errors.old at_start (execute (record { tables = lent tables.now }) choices.now) result text.new errors.new }
 {
     let mut plans = [0u16; STORE_WORDS];
     let mut spans = [0u64; SPAN_WORDS];
     let mut hints = [0u32; HINTS];
-    let planned = plan_operation(tables, &mut plans, tables.root);
-    let Planned::At { plan, top } = planned else {
-        return stopped_at_start(planned);
+    let own = match plan_operation(tables, &mut plans, tables.root) {
+        Ok(own) => own,
+        Err(outcome) => {
+            return stopped(START, outcome);
+        }
     };
     execute_selection_set(
         tables,
@@ -91,15 +87,10 @@ fn execute_operation(tables: &Tables, choices: &[u32], text: &mut [u8], errors: 
         &mut spans,
         &mut hints,
         root_path(),
-        plan,
+        own.plan,
         tables.root,
         root_rows(tables.answers),
-        State {
-            at: 0,
-            errs: 0,
-            choice: 0,
-            top: top,
-        },
+        planned_to(START, own.top),
     )
 }
 
@@ -110,11 +101,10 @@ pub fn run_ordered(
     text: &mut [u8],
     errors: &mut [u32],
 ) -> Reported
-    ensures { let t = tables.now in Reports (length text.old) (length errors.old) (report (record { tables = tables t.pool.now t.names.now t.type_refs.now t.types.now t.members.now t.fields.now t.arguments.now t.sets.now t.selections.now t.given.now t.fragments.now t.nodes.now t.literals.now t.variables.now t.answers.now t.root }) (length text.old) (length errors.old) choices.now) result text.new errors.new }
+    ensures { Reports (length text.old) (length errors.old) (report (record { tables = lent tables.now }) (length text.old) (length errors.old) choices.now) result text.new errors.new }
 {
-    let code = refusal(tables, choices.len(), text.len(), errors.len());
-    if code != 0 {
-        return refuse(text, errors, code);
+    if let Some(outcome) = refusal(tables, choices.len(), text.len(), errors.len()) {
+        return refuse(text, errors, outcome);
     }
     let d = execute_operation(tables, choices, text, errors);
     report_end(text, errors, d)
@@ -122,7 +112,7 @@ pub fn run_ordered(
 
 // A run in document order: with no choices each set takes its groups as they stand.
 pub fn run(tables: &Tables, text: &mut [u8], errors: &mut [u32]) -> Reported
-    ensures { let t = tables.now in Reports (length text.old) (length errors.old) (report_in_order (record { tables = tables t.pool.now t.names.now t.type_refs.now t.types.now t.members.now t.fields.now t.arguments.now t.sets.now t.selections.now t.given.now t.fragments.now t.nodes.now t.literals.now t.variables.now t.answers.now t.root }) (length text.old) (length errors.old)) result text.new errors.new }
+    ensures { Reports (length text.old) (length errors.old) (report_in_order (record { tables = lent tables.now }) (length text.old) (length errors.old)) result text.new errors.new }
 {
     run_ordered(tables, &tables.answers[0..0], text, errors)
 }

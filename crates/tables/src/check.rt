@@ -1,6 +1,6 @@
 // The table check: code 0 where every rule of document 01 on the tables lent holds, and 1 otherwise.
 ghost use Rattle.std.specs.Prelude.{◌≡◌};
-ghost use Rattle.tables.specs.Tables.{tables};
+ghost use Rattle.tables.specs.Tables.{lent};
 ghost use Rattle.tables.specs.Rules.{rows_lawful};
 ghost use Rattle.tables.specs.Lawful.{table_code, lawful_buffers, lawful_choices};
 
@@ -22,7 +22,7 @@ pub const UNLAWFUL: u32 = 1;
 
 // Every rule holds at every row that it speaks of.
 fn rows_are_lawful(tables: &Tables) -> bool
-    ensures { let t = tables.now in result ≡ rows_lawful (tables t.pool.now t.names.now t.type_refs.now t.types.now t.members.now t.fields.now t.arguments.now t.sets.now t.selections.now t.given.now t.fragments.now t.nodes.now t.literals.now t.variables.now t.answers.now t.root) }
+    ensures { result ≡ rows_lawful (lent tables.now) }
 {
     let sized = schema_is_sized(
         tables.pool,
@@ -83,7 +83,7 @@ fn rows_are_lawful(tables: &Tables) -> bool
 }
 
 pub fn table_check(tables: &Tables) -> u32
-    ensures { let t = tables.now in result ≡ table_code (tables t.pool.now t.names.now t.type_refs.now t.types.now t.members.now t.fields.now t.arguments.now t.sets.now t.selections.now t.given.now t.fragments.now t.nodes.now t.literals.now t.variables.now t.answers.now t.root) }
+    ensures { result ≡ table_code (lent tables.now) }
 {
     if !rows_are_lawful(tables) {
         return UNLAWFUL;

@@ -5,8 +5,10 @@ ghost use Rattle.writing.specs.Wrote.{Writes};
 ghost use Rattle.graphql.specs.Json.{print};
 ghost use Rattle.values.specs.Put.{label};
 ghost use Rattle.values.specs.Literals.{plain_literal, literal_key_text, LiteralsParted, PutsParts, PutsLiteral};
+ghost use Rattle.tables.specs.Tables.{lent};
 
 use crate::node::{Parts, put_brackets};
+use codes::outcome::Outcome;
 use rows::json::{Literal, literal_at, literal_key};
 use rows::names::name_text;
 use rows::strings::text_of;
@@ -14,17 +16,9 @@ use rows::tables::Tables;
 use tokens::json::{put_false, put_natural, put_negative, put_null, put_string, put_true};
 use writing::write::{put, put_all};
 
-// The position after a literal's text; or a container more would be open than there is room for; or a variable was reached.
-#[derive(Clone, Copy)]
-pub enum PutLiteral {
-    At(usize),
-    TooFar,
-    Variable,
-}
-
 // A literal that is no container and no variable.
 fn put_plain_literal(tables: &Tables, text: &mut [u8], at: usize, literal: Literal) -> usize
-    ensures { let t = tables.now in Writes text.old text.new at result (print (plain_literal t.pool.now t.names.now literal)) }
+    ensures { let t = lent tables.now in Writes text.old text.new at result (print (plain_literal t.pool t.names literal)) }
 {
     match literal {
         Literal::False => put_false(text, at),
@@ -40,8 +34,8 @@ fn put_plain_literal(tables: &Tables, text: &mut [u8], at: usize, literal: Liter
 
 // What stands before the value of a part: a comma; in an object its key and a colon too.
 fn put_literal_label(tables: &Tables, text: &mut [u8], at: usize, keyed: bool, row: u32) -> usize
-    ensures { let t = tables.now in Writes text.old text.new at result
-        (label keyed (literal_key_text t.pool.now t.names.now t.literals.now row)) }
+    ensures { let t = lent tables.now in Writes text.old text.new at result
+        (label keyed (literal_key_text t.pool t.names t.literals row)) }
 {
     let next = put(text, at, b',');
     if keyed {
@@ -55,15 +49,22 @@ fn put_literal_label(tables: &Tables, text: &mut [u8], at: usize, keyed: bool, r
     next
 }
 
+// The position after the text; or a container more would be open than there is room for, or a variable was reached.
 #[cycle(put_literal_put_parts)]
-fn put_parts(tables: &Tables, text: &mut [u8], at: usize, room: u32, parts: Parts) -> PutLiteral
-    requires literals_parted { let t = tables.now in LiteralsParted t.literals.now }
+fn put_parts(
+    tables: &Tables,
+    text: &mut [u8],
+    at: usize,
+    room: u32,
+    parts: Parts,
+) -> Result<usize, Outcome>
+    requires literals_parted { let t = lent tables.now in LiteralsParted t.literals }
     requires count_bound { parts.rows.first + parts.rows.count ≤ most_literals }
-    ensures { let t = tables.now in PutsParts t.pool.now t.names.now t.literals.now room parts
+    ensures { let t = lent tables.now in PutsParts t.pool t.names t.literals room parts
         text.old at result text.new }
 {
     if room == 0 {
-        return PutLiteral::TooFar;
+        return Err(Outcome::TooFar);
     }
     let keyed = parts.keyed;
     let rows = parts.rows;
@@ -73,20 +74,22 @@ fn put_parts(tables: &Tables, text: &mut [u8], at: usize, room: u32, parts: Part
     for i in 0..count {
         let row = first + i;
         let value = put_literal_label(tables, text, next, keyed, row);
-        let written = put_literal(tables, text, value, room - 1, row);
-        let PutLiteral::At(end) = written else {
-            return written;
-        };
-        next = end;
+        next = put_literal(tables, text, value, room - 1, row)?;
     }
-    PutLiteral::At(put_brackets(text, at, next, keyed))
+    Ok(put_brackets(text, at, next, keyed))
 }
 
 // What was written before it was given up is nobody's.
 #[cycle(put_literal_put_parts)]
-pub fn put_literal(tables: &Tables, text: &mut [u8], at: usize, room: u32, row: u32) -> PutLiteral
-    requires { let t = tables.now in LiteralsParted t.literals.now }
-    ensures { let t = tables.now in PutsLiteral t.pool.now t.names.now t.literals.now room row
+pub fn put_literal(
+    tables: &Tables,
+    text: &mut [u8],
+    at: usize,
+    room: u32,
+    row: u32,
+) -> Result<usize, Outcome>
+    requires { let t = lent tables.now in LiteralsParted t.literals }
+    ensures { let t = lent tables.now in PutsLiteral t.pool t.names t.literals room row
         text.old at result text.new }
 {
     let literal = literal_at(tables.literals, row);
@@ -105,7 +108,7 @@ pub fn put_literal(tables: &Tables, text: &mut [u8], at: usize, room: u32, row: 
             };
             put_parts(tables, text, at, room, parts)
         }
-        Literal::Variable(_) => PutLiteral::Variable,
-        _ => PutLiteral::At(put_plain_literal(tables, text, at, literal)),
+        Literal::Variable(_) => Err(Outcome::VariableInLiteral),
+        _ => Ok(put_plain_literal(tables, text, at, literal)),
     }
 }

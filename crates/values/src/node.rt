@@ -3,6 +3,7 @@ ghost use Rattle.std.specs.Prelude.{◌≡◌, ◌+◌, ◌≤◌};
 ghost use Rattle.rows.specs.Limits.{most_nodes};
 ghost use Rattle.writing.specs.Wrote.{Writes, Closes};
 ghost use Rattle.values.specs.Put.{shape_of, label, key_text, left, right, Parted, PutsContainer, PutsNode};
+ghost use Rattle.tables.specs.Tables.{lent};
 
 use crate::plain::put_plain;
 use rows::json::{Node, node_at, node_key};
@@ -13,13 +14,6 @@ use tokens::json::put_string;
 use writing::place::close;
 use writing::write::put;
 
-// The position after a node's text; or a container more would be open than there is room for.
-#[derive(Clone, Copy)]
-pub enum Put {
-    At(usize),
-    TooFar,
-}
-
 // The parts of an object have keys, those of an array have none.
 #[derive(Clone, Copy)]
 pub struct Parts {
@@ -27,31 +21,26 @@ pub struct Parts {
     pub rows: Range,
 }
 
-#[derive(Clone, Copy)]
-pub enum Shape {
-    Plain,
-    Container(Parts),
-}
-
-fn shape_of(node: Node) -> Shape
+// The parts of a container; any other node has none.
+fn shape_of(node: Node) -> Option<Parts>
     ensures { result ≡ shape_of node }
 {
     match node {
-        Node::Array(rows) => Shape::Container(Parts {
+        Node::Array(rows) => Some(Parts {
             keyed: false,
             rows: rows,
         }),
-        Node::Object(rows) => Shape::Container(Parts {
+        Node::Object(rows) => Some(Parts {
             keyed: true,
             rows: rows,
         }),
-        _ => Shape::Plain,
+        _ => None,
     }
 }
 
 // What stands before the value of a part: a comma; in an object its key and a colon too.
 fn put_label(tables: &Tables, text: &mut [u8], at: usize, keyed: bool, row: u32) -> usize
-    ensures { let t = tables.now in Writes text.old text.new at result (label keyed (key_text t.pool.now t.nodes.now row)) }
+    ensures { let t = lent tables.now in Writes text.old text.new at result (label keyed (key_text t.pool t.nodes row)) }
 {
     let next = put(text, at, b',');
     if keyed {
@@ -75,14 +64,21 @@ pub fn put_brackets(text: &mut [u8], start: usize, at: usize, keyed: bool) -> us
     close(text, start, at, b'[', b']')
 }
 
+// The position after the text; none where a container more would be open than there is room for.
 #[cycle(put_container_put_node)]
-fn put_container(tables: &Tables, text: &mut [u8], at: usize, room: u32, parts: Parts) -> Put
-    requires parted { let t = tables.now in Parted t.nodes.now }
+fn put_container(
+    tables: &Tables,
+    text: &mut [u8],
+    at: usize,
+    room: u32,
+    parts: Parts,
+) -> Option<usize>
+    requires parted { let t = lent tables.now in Parted t.nodes }
     requires count_bound { parts.rows.first + parts.rows.count ≤ most_nodes }
-    ensures { let t = tables.now in PutsContainer t.pool.now t.nodes.now room parts text.old at result text.new }
+    ensures { let t = lent tables.now in PutsContainer t.pool t.nodes room parts text.old at result text.new }
 {
     if room == 0 {
-        return Put::TooFar;
+        return None;
     }
     let keyed = parts.keyed;
     let rows = parts.rows;
@@ -92,25 +88,20 @@ fn put_container(tables: &Tables, text: &mut [u8], at: usize, room: u32, parts: 
     for i in 0..count {
         let row = first + i;
         let value = put_label(tables, text, next, keyed, row);
-        let written = put_node(tables, text, value, room - 1, row);
-        let Put::At(end) = written else {
-            return Put::TooFar;
-        };
-        next = end;
+        next = put_node(tables, text, value, room - 1, row)?;
     }
-    Put::At(put_brackets(text, at, next, keyed))
+    Some(put_brackets(text, at, next, keyed))
 }
 
 // What was written before it was too far is nobody's.
 #[cycle(put_container_put_node)]
-pub fn put_node(tables: &Tables, text: &mut [u8], at: usize, room: u32, row: u32) -> Put
-    requires { let t = tables.now in Parted t.nodes.now }
-    ensures { let t = tables.now in PutsNode t.pool.now t.nodes.now room row text.old at result text.new }
+pub fn put_node(tables: &Tables, text: &mut [u8], at: usize, room: u32, row: u32) -> Option<usize>
+    requires { let t = lent tables.now in Parted t.nodes }
+    ensures { let t = lent tables.now in PutsNode t.pool t.nodes room row text.old at result text.new }
 {
     let node = node_at(tables.nodes, row);
-    let shape = shape_of(node);
-    let Shape::Container(parts) = shape else {
-        return Put::At(put_plain(tables.pool, text, at, node));
+    let Some(parts) = shape_of(node) else {
+        return Some(put_plain(tables.pool, text, at, node));
     };
     put_container(tables, text, at, room, parts)
 }
