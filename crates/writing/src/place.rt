@@ -45,8 +45,10 @@ pub fn turn_into_place(text: &mut [u8], a: usize, b: usize, e: usize)
 pub fn clear(text: &mut [u8], from: usize)
     ensures { text.new ≡ zeroed_from from text.old }
 {
-    for i in from..text.len() {
+    let mut i = from;
+    while i < text.len() {
         text[i] = 0;
+        i += 1;
     }
 }
 
@@ -54,7 +56,9 @@ pub fn clear(text: &mut [u8], from: usize)
 pub fn clear_words(words: &mut [u32], from: usize)
     ensures { words.new ≡ zeroed_from from words.old }
 {
-    for i in from..words.len() {
+    let mut i = from;
+    while i < words.len() {
         words[i] = 0;
+        i += 1;
     }
 }

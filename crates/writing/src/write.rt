@@ -51,8 +51,10 @@ fn put_each(text: &mut [u8], at: usize, s: &[u8]) -> usize
     ensures { Writes text.old text.new at result s.now }
 {
     let mut next = at;
-    for i in 0..s.len() {
+    let mut i = 0;
+    while i < s.len() {
         next = put(text, next, s[i]);
+        i += 1;
     }
     next
 }
@@ -63,8 +65,10 @@ pub fn eight_at(s: &[u8], from: usize) -> [u8; 8]
     ensures { result ≡ take 8 (drop from s.now) }
 {
     let mut block = [0u8; 8];
-    for i in 0..8 {
+    let mut i = 0;
+    while i < 8 {
         block[i] = s[from + i];
+        i += 1;
     }
     block
 }

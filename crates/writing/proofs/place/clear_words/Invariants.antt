@@ -6,3 +6,6 @@ use Rattle.writing.proofs.place.clear_words.Given as goal
 
 abbrev pub invariant-loop-i : goal.invariant-loop-i
 invariant-loop-i l = Clearing l.initial.words l.from l.words l.i
+
+abbrev pub decreases-loop-i : goal.decreases-loop-i
+decreases-loop-i l = length l.initial.words - l.i

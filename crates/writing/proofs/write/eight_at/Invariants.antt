@@ -5,3 +5,6 @@ use Rattle.writing.proofs.write.eight_at.Given as goal
 
 abbrev pub invariant-loop-i : goal.invariant-loop-i
 invariant-loop-i l = Reading 8 l.s l.from l.block l.i
+
+abbrev pub decreases-loop-i : goal.decreases-loop-i
+decreases-loop-i l = 8 - l.i

@@ -7,3 +7,6 @@ use Rattle.writing.proofs.write.put_each.Given as goal
 
 abbrev pub invariant-loop-i : goal.invariant-loop-i
 invariant-loop-i k = Putting (λ (l : List ℕ). l) k.initial.text k.at k.s k.text k.next k.i
+
+abbrev pub decreases-loop-i : goal.decreases-loop-i
+decreases-loop-i l = length l.s - l.i
