@@ -16,7 +16,7 @@ use Rattle.walking.specs.Paths.{path_of}
 use Rattle.walking.specs.declared.path.Path.{Path}
 use Rattle.walking.specs.declared.state.State.{State}
 use Rattle.walking.specs.declared.state.Failure.TheVariants.{Stop}
-use Rattle.walking.specs.declared.state.Completed.TheVariants.{Fails}
+use Rattle.std.specs.Prelude.{Err}
 use Rattle.walking.specs.declared.state.Done.{Done}
 use Rattle.walking.proofs.Ended.{stopped_gives}
 use Rattle.resolving.specs.Steps.{doing}
@@ -132,7 +132,7 @@ module _ {Q : Request} {plans spans hints : List ℕ} {path : Path} {s : State} 
 
     -- The set cannot be collected.
     pub object_stopped : {cs text errors : List ℕ} {code : ℕ} {d : Done} → Stopped Q set plans s.top object code plans1
-        → d ≡ record { what = Fails (Stop code); state = s }
+        → d ≡ record { what = Err (Stop code); state = s }
         → ObjectDone Q cs text errors plans spans hints path s plan group object rows d text errors plans1 spans hints1
     object_stopped {cs} {code = code} t e = rw e (record {
       left = record {
@@ -147,7 +147,7 @@ module _ {Q : Request} {plans spans hints : List ℕ} {path : Path} {s : State} 
 
     -- it is one of the two ends that stop
     pub object_stops : {cs text errors : List ℕ} {code : ℕ} {d : Done} → ((own top : ℕ) → p ≡ planned.At own top → ⊥) → (p ≡ planned.NoRoom → ⊥) → code ≡ stop_code p
-        → d ≡ record { what = Fails (Stop code); state = s }
+        → d ≡ record { what = Err (Stop code); state = s }
         → ObjectDone Q cs text errors plans spans hints path s plan group object rows d text errors plans1 spans hints1
     object_stops {cs} {text} {errors} {d = d} a n c e = go p refl
       where
@@ -219,7 +219,7 @@ module _ {Q : Request} {plans spans hints : List ℕ} {path : Path} {s : State} 
           gone g = record { what = g.what; wrote = g.wrote; noted = g.noted; chosen = g.chosen }
 
     apart_stopped : {cs text errors : List ℕ} {code : ℕ} {d : Done} → Stopped Q set store 0 object code store1
-        → d ≡ record { what = Fails (Stop code); state = s }
+        → d ≡ record { what = Err (Stop code); state = s }
         → ObjectDone Q cs text errors plans spans hints path s plan group object rows d text errors plans spans hints
     apart_stopped {cs} {code = code} t e = rw e (record {
       left = left_same path.count h.ready.standing;
@@ -228,7 +228,7 @@ module _ {Q : Request} {plans spans hints : List ℕ} {path : Path} {s : State} 
 
     -- it is not that there is no room
     pub apart_stops : {cs text errors : List ℕ} {code : ℕ} {d : Done} → ((own top : ℕ) → p ≡ planned.At own top → ⊥) → code ≡ stop_code p
-        → d ≡ record { what = Fails (Stop code); state = s }
+        → d ≡ record { what = Err (Stop code); state = s }
         → ObjectDone Q cs text errors plans spans hints path s plan group object rows d text errors plans spans hints
     apart_stops {cs} {text} {errors} {d = d} a c e = go p refl
       where

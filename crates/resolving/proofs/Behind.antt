@@ -19,7 +19,7 @@ use Rattle.walking.specs.declared.path.Path.{Path}
 use Rattle.walking.specs.declared.state.State.{State}
 use Rattle.walking.specs.declared.state.Kind.TheVariants.{LeftOut}
 use Rattle.walking.specs.declared.state.Failure.TheVariants.{Here, Stop}
-use Rattle.walking.specs.declared.state.Completed.TheVariants.{Placed, Fails}
+use Rattle.std.specs.Prelude.{Ok, Err}
 use Rattle.walking.specs.declared.state.Done.{Done}
 use Rattle.resolving.specs.Resolve.{CompletesAt}
 use Rattle.resolving.specs.Field.{Finishes, OpensList, OpensObject, OpensBehind, CompletesBehind, AnswersBehind, TypenameBehind, typename_in}
@@ -74,7 +74,7 @@ module _ {path : Path} {last : ℕ} {asked : Asked} {pool names refs types membe
         → AnswersBehind path last asked pool names refs types members fields nodes literals variables ty b start a text errors s r text' errors'
     answers_given e h = rw e (record { steps = h.steps })
 
-    pub answers_skip : {back : State} {r : Done} → a ≡ answer.Skip → back ≡ moved_to s start → r ≡ record { what = Placed LeftOut; state = back }
+    pub answers_skip : {back : State} {r : Done} → a ≡ answer.Skip → back ≡ moved_to s start → r ≡ record { what = Ok LeftOut; state = back }
         → AnswersBehind path last asked pool names refs types members fields nodes literals variables ty b start a text errors s (step.Finished r)
         text errors
     answers_skip e m d = rw (e, d, m) (record {
@@ -89,7 +89,7 @@ module _ {path : Path} {last : ℕ} {asked : Asked} {pool names refs types membe
       steps = λ arguments sets selections given fragments answers g m at i. failed_steps _ path g b m e place last i h f;
     })
 
-    pub answers_stopped : {code : ℕ} {d r : Done} {text' : List ℕ} → a ≡ answer.Stop code → d ≡ record { what = Fails (Stop code); state = s }
+    pub answers_stopped : {code : ℕ} {d r : Done} {text' : List ℕ} → a ≡ answer.Stop code → d ≡ record { what = Err (Stop code); state = s }
         → Finishes b start d text r text'
         → AnswersBehind path last asked pool names refs types members fields nodes literals variables ty b start a text errors s (step.Finished r)
         text' errors

@@ -30,7 +30,7 @@ use Rattle.walking.specs.declared.path.Path.{Path}
 use Rattle.walking.specs.declared.state.State.{State}
 use Rattle.walking.specs.declared.state.Kind.TheVariants.{LeftOut}
 use Rattle.walking.specs.declared.state.Failure.TheVariants.{Stop}
-use Rattle.walking.specs.declared.state.Completed.TheVariants.{Placed, Fails}
+use Rattle.std.specs.Prelude.{Ok, Err}
 use Rattle.walking.specs.declared.state.Done.{Done}
 use Rattle.walking.proofs.Ended.{stopped_gives, placed_gives}
 use Rattle.resolving.specs.Sound.{asking, Askable, Answerable}
@@ -91,7 +91,7 @@ module _ (Q : Request) (path : Path) (object : ℕ) (rows : Range) (g : Group) w
 module _ {pool names refs types members fields arguments selections gives nodes literals variables answers : List ℕ} {path : Path} {first object : ℕ}
     {rows : Range} {text errors : List ℕ} {s : State} {own : ℕ}
     (says : own ≡ definition_code (definition_of (schema types fields) object (field_selection selections first).name)) where
-  pub field_undefined : {d : Done} → own ≡ 0 → d ≡ record { what = Placed LeftOut; state = s }
+  pub field_undefined : {d : Done} → own ≡ 0 → d ≡ record { what = Ok LeftOut; state = s }
       → ExecutesField pool names refs types members fields arguments selections gives nodes literals variables answers path first object rows text
       errors s (step.Finished d) text errors
   unfolding execute_group
@@ -102,7 +102,7 @@ module _ {pool names refs types members fields arguments selections gives nodes 
   })
 
   pub field_full : {code : ℕ} {d : Done} → (own ≡ 0 → ⊥) → path.count ≤ 32 → 32 ≤ path.count → code ≡ too_far
-      → d ≡ record { what = Fails (Stop code); state = s }
+      → d ≡ record { what = Err (Stop code); state = s }
       → ExecutesField pool names refs types members fields arguments selections gives nodes literals variables answers path first object rows text
       errors s (step.Finished d) text errors
   unfolding execute_group

@@ -26,7 +26,7 @@ use Rattle.walking.specs.declared.path.Path.{Path}
 use Rattle.walking.specs.declared.state.State.{State}
 use Rattle.walking.specs.declared.state.Kind.TheVariants.{LeftOut}
 use Rattle.walking.specs.declared.state.Failure.TheVariants.{PastList, Stop}
-use Rattle.walking.specs.declared.state.Completed.TheVariants.{Placed, Fails}
+use Rattle.std.specs.Prelude.{Ok, Err}
 use Rattle.walking.specs.declared.state.Done.{Done}
 use Rattle.walking.proofs.Ended.{fails_gives, stopped_gives}
 use Rattle.resolving.specs.Sound.{asking, Itemizable}
@@ -61,7 +61,7 @@ item_is Q path at last inner row room seg g args = rw (← seg) (run_down Q room
 
 module _ {pool names refs types members fields arguments gives nodes literals variables answers : List ℕ} {path : Path} {at : ℕ} {asked : Asked}
     {inner row : ℕ} {text errors : List ℕ} {s : State} where
-  pub item_full : {code : ℕ} {d : Done} → path.count ≤ 32 → 32 ≤ path.count → code ≡ too_far → d ≡ record { what = Fails (Stop code); state = s }
+  pub item_full : {code : ℕ} {d : Done} → path.count ≤ 32 → 32 ≤ path.count → code ≡ too_far → d ≡ record { what = Err (Stop code); state = s }
       → CompletesItem pool names refs types members fields arguments gives nodes literals variables answers path at asked inner row text errors s
       (step.Finished d) text errors
   item_full h l c d = rw (d, c) (record {
@@ -71,7 +71,7 @@ module _ {pool names refs types members fields arguments gives nodes literals va
   module _ (last : ℕ) (room : path.count < 32) (seg : segment_of last ≡ index at) where
     module _ {o : Resolved} (h : ResolvesRow arguments gives literals variables answers asked row o)
         (sound : Itemizable types arguments nodes literals variables answers asked) where
-      pub item_skip : {d : Done} → o ≡ resolving.Skip → d ≡ record { what = Placed LeftOut; state = s }
+      pub item_skip : {d : Done} → o ≡ resolving.Skip → d ≡ record { what = Ok LeftOut; state = s }
           → CompletesItem pool names refs types members fields arguments gives nodes literals variables answers path at asked inner row text errors s
           (step.Finished d) text errors
       unfolding complete_item note pure after record_of records_of words_of filter_map

@@ -34,7 +34,7 @@ use Rattle.walking.specs.declared.state.State.{State}
 use Rattle.walking.specs.declared.state.Kind.TheVariants as kind
 use Rattle.walking.specs.declared.state.Failure.{Failure}
 use Rattle.walking.specs.declared.state.Failure.TheVariants.{Here, Stop}
-use Rattle.walking.specs.declared.state.Completed.TheVariants.{Placed, Fails}
+use Rattle.std.specs.Prelude.{Ok, Err}
 use Rattle.walking.specs.declared.state.Done.{Done}
 use Rattle.walking.proofs.Ended.{fails_back, stopped_long, placed_gives}
 use Rattle.resolving.specs.Sound.{asking}
@@ -78,7 +78,7 @@ comes Q sorts spells judges l m g p =
 
 module _ {pool names refs types members fields nodes literals variables : List ℕ} {code_leaf : code.Leaf} {text text' errors : List ℕ} {ty spot last : ℕ}
     {path : Path} {s : State} {w : Put} (h : PutsLeaf pool names refs types fields nodes literals variables code_leaf text s.at w text') where
-  pub leaf_too_far : {code : ℕ} {d : Done} → w ≡ TooFar → code ≡ too_far → d ≡ record { what = Fails (Stop code); state = s }
+  pub leaf_too_far : {code : ℕ} {d : Done} → w ≡ TooFar → code ≡ too_far → d ≡ record { what = Err (Stop code); state = s }
       → CompletesAt pool names refs types members fields nodes literals variables ty code_leaf spot path last text errors s d text' errors
   unfolding when
   leaf_too_far e c q = rw (q, c) (record {
@@ -89,7 +89,7 @@ module _ {pool names refs types members fields nodes literals variables : List �
 
   module _ {end : ℕ} (e : w ≡ At end) {sort : Sort} {string : List ℕ} {v : Verdict} (sorts : SortsLeaf refs types nodes literals code_leaf sort)
       (spells : SpellsLeaf pool names nodes literals code_leaf string) (judges : JudgesLeaf pool names refs types members ty sort string v) where
-    pub leaf_fits : {d : Done} → v ≡ Fits → d ≡ record { what = Placed kind.Leaf; state = moved_to s end }
+    pub leaf_fits : {d : Done} → v ≡ Fits → d ≡ record { what = Ok kind.Leaf; state = moved_to s end }
         → CompletesAt pool names refs types members fields nodes literals variables ty code_leaf spot path last text errors s d text' errors
     unfolding when print_data
     leaf_fits f q = rw q (record {

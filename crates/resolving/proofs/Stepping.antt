@@ -24,7 +24,7 @@ use Rattle.walking.specs.declared.path.Path.{Path}
 use Rattle.walking.specs.declared.state.State.{State}
 use Rattle.walking.specs.declared.state.Kind.TheVariants.{LeftOut}
 use Rattle.walking.specs.declared.state.Failure.TheVariants.{Here, Stop}
-use Rattle.walking.specs.declared.state.Completed.TheVariants.{Placed, Fails}
+use Rattle.std.specs.Prelude.{Ok, Err}
 use Rattle.walking.specs.declared.state.Done.{Done}
 use Rattle.walking.proofs.Ended.{words_none, try_settled, fails_gives, stopped_gives}
 use Rattle.resolving.specs.Steps.{keyed_by, doing, Steps}
@@ -112,20 +112,20 @@ module _ (Q : Request) (path : Path) (g : Group) (b : Bool) (m : M Val) {start :
 
   -- the run stopped
   pub stopped_steps : {r : Done} {text' : List ℕ} (code : ℕ) → ((k : Choices) → m k ≡ halt code k)
-      → Finishes b start (record { what = Fails (Stop code); state = s }) text r text'
+      → Finishes b start (record { what = Err (Stop code); state = s }) text r text'
       → StepsBehind Q path g start (try_nullify b m) text errors s (step.Finished r) text' errors
   stopped_steps code i f = ended_steps refl (λ cs. rw (i (drop s.choice cs)) (stopped_gives code)) f
 
   -- a value that is left out: the label is taken back
   pub left_steps : ((k : Choices) → m k ≡ pure absent k)
-      → StepsBehind Q path g start (try_nullify b m) text errors s (step.Finished (record { what = Placed LeftOut; state = moved_to s start }))
+      → StepsBehind Q path g start (try_nullify b m) text errors s (step.Finished (record { what = Ok LeftOut; state = moved_to s start }))
       text errors
   unfolding pure caught
   left_steps i = record { steps = λ cs label before w. (rw (try_settled b m (drop s.choice cs), i (drop s.choice cs)) (go b w), refl) }
     where
       go : {cs label before : List ℕ} (b : Bool) → Wrote before text start s.at label
           → Gives (as_entry label) cs before errors (moved_to s start) (settled b (pure absent (drop s.choice cs)))
-          (record { what = Placed LeftOut; state = moved_to s start }) text errors
+          (record { what = Ok LeftOut; state = moved_to s start }) text errors
       go true w = record { what = refl; wrote = back w; noted = rw words_none (stay errors s.errs); chosen = refl }
       go false w = record { what = refl; wrote = back w; noted = rw words_none (stay errors s.errs); chosen = refl }
 

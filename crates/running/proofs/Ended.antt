@@ -20,7 +20,7 @@ use Rattle.graphql.specs.Report.{records_of, words_of, answered_with, ended, ref
 use Rattle.walking.specs.declared.state.Kind.{Kind}
 use Rattle.walking.specs.declared.state.Failure.{Failure}
 use Rattle.walking.specs.declared.state.Failure.TheVariants.{Stop}
-use Rattle.walking.specs.declared.state.Completed.TheVariants.{Placed, Fails}
+use Rattle.std.specs.Prelude.{Ok, Err}
 use Rattle.walking.specs.declared.state.Done.{Done}
 use Rattle.walking.specs.Gives.{as_data, answer_of}
 use Rattle.walking.proofs.Ends.{placed_of}
@@ -120,13 +120,13 @@ rewritten {before} {text} l w = record {
   shown = λ h. w.wrote.shown (omega arith);
 }
 
-stop_of : (x : Res Data) {code : ℕ} → Fails (Stop code) ≡ answer_of as_data x → (log : Log) × (x ≡ stop code log)
+stop_of : (x : Res Data) {code : ℕ} → Err (Stop code) ≡ answer_of as_data x → (log : Log) × (x ≡ stop code log)
 stop_of (stop n w) e = (w, ap (λ (c : ℕ). stop c w) (cc))
 stop_of (failed here w c) e = absurd (let z : ◌≡◌ {A = ℕ} 0 1 = cc in omega arith)
 stop_of (failed past_list w c) e = absurd (let z : ◌≡◌ {A = ℕ} 0 1 = cc in omega arith)
 stop_of (done v w c) e = absurd (let z : ◌≡◌ {A = ℕ} 0 1 = cc in omega arith)
 
-failed_of : (x : Res Data) {f : Failure} → Among (0 ∷ 1 ∷ []) (tag_of failures f) → Fails f ≡ answer_of as_data x
+failed_of : (x : Res Data) {f : Failure} → Among (0 ∷ 1 ∷ []) (tag_of failures f) → Err f ≡ answer_of as_data x
     → (r : Reach) × (log : Log) × (c : Choices) × (x ≡ failed r log c)
 failed_of (stop n w) {f} k e = absurd (not_stop (cc))
   where
@@ -136,7 +136,7 @@ failed_of (failed r w c) k e = (r, w, c, refl)
 failed_of (done v w c) k e = absurd (let z : ◌≡◌ {A = ℕ} 0 1 = cc in omega arith)
 
 module _ {text errors text' errors' : List ℕ} {d : Done} {r : Reported} where
-  pub end_placed : {k : Kind} → d.what ≡ Placed k → ReportsWritten text errors d.state.at d.state.errs r text' errors'
+  pub end_placed : {k : Kind} → d.what ≡ Ok k → ReportsWritten text errors d.state.at d.state.errs r text' errors'
       → ReportsEnd text errors d r text' errors'
   unfolding ended
   end_placed e k = record {
@@ -146,17 +146,17 @@ module _ {text errors text' errors' : List ℕ} {d : Done} {r : Reported} where
         rw p.3 (k.reports before noted p.0 p.1 (rw z at h.wrote) (rw y at h.noted));
   }
 
-  pub end_stopped : {f : Failure} {code : ℕ} → d.what ≡ Fails f → f ≡ Stop code
+  pub end_stopped : {f : Failure} {code : ℕ} → d.what ≡ Err f → f ≡ Stop code
       → Reports (length text) (length errors) (refused code) r text' errors' → ReportsEnd text errors d r text' errors'
   unfolding ended fitted
   end_stopped e q k = record {
     reports = λ cs before noted s x z y g.
-        let p = stop_of x (sym (e ∙ ap Fails q) ∙ g.what) in
+        let p = stop_of x (sym (e ∙ ap Err q) ∙ g.what) in
         let h = rw p.1 at g in
         rw (p.1, ← h.wrote, ← h.noted.long) k;
   }
 
-  pub end_failed : {f : Failure} {text1 : List ℕ} {at : ℕ} → d.what ≡ Fails f → Among (0 ∷ 1 ∷ []) (tag_of failures f)
+  pub end_failed : {f : Failure} {text1 : List ℕ} {at : ℕ} → d.what ≡ Err f → Among (0 ∷ 1 ∷ []) (tag_of failures f)
       → Writes text text1 0 at null_name → ReportsWritten text1 errors at d.state.errs r text' errors' → ReportsEnd text errors d r text' errors'
   unfolding ended print_data
   end_failed e o w k = record {

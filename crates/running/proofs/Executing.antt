@@ -34,7 +34,7 @@ use Rattle.planning.specs.declared.plan.Planned.TheVariants as planned
 use Rattle.planning.specs.contracts.plan.Planned.{the_type as plannings}
 use Rattle.walking.specs.declared.path.Path.{Path}
 use Rattle.walking.specs.declared.state.Failure.TheVariants.{Stop}
-use Rattle.walking.specs.declared.state.Completed.TheVariants.{Fails}
+use Rattle.std.specs.Prelude.{Err}
 use Rattle.walking.specs.declared.state.Done.{Done}
 use Rattle.walking.specs.Paths.{path_of}
 use Rattle.walking.specs.Gives.{as_data, Gives}
@@ -79,7 +79,7 @@ rows_led answer.Unknown l = omega arith
 
 -- ---- Why the operation's set cannot be collected
 
-pub stopped_so : {d : Done} {code : ℕ} (r : Planned) → code ≡ stop_code r → d ≡ record { what = Fails (Stop code); state = at_start } → d ≡ stopped_by r
+pub stopped_so : {d : Done} {code : ℕ} (r : Planned) → code ≡ stop_code r → d ≡ record { what = Err (Stop code); state = at_start } → d ≡ stopped_by r
 stopped_so r e f = rw e at f
 
 -- ---- Lawful tables

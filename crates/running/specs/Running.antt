@@ -9,7 +9,7 @@ use Rattle.planning.specs.declared.plan.Planned.{Planned}
 use Rattle.execution.specs.Ends.{stop_code}
 use Rattle.walking.specs.declared.state.State.{State}
 use Rattle.walking.specs.declared.state.Failure.TheVariants.{Stop}
-use Rattle.walking.specs.declared.state.Completed.TheVariants.{Fails}
+use Rattle.std.specs.Prelude.{Err}
 use Rattle.walking.specs.declared.state.Done.{Done}
 
 -- 1 before 2; 0 where there is a walk
@@ -25,4 +25,4 @@ at_start = record { at = 0; errs = 0; choice = 0; top = 0 }
 
 -- the operation's set cannot be collected
 abbrev pub stopped_by : Planned → Done
-stopped_by p = record { what = Fails (Stop (stop_code p)); state = at_start }
+stopped_by p = record { what = Err (Stop (stop_code p)); state = at_start }
