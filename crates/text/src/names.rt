@@ -2,12 +2,14 @@
 ghost use Rattle.std.specs.Prelude.{◌≡◌};
 ghost use Rattle.text.specs.Names.{NameStart, NameContinue, is_name};
 
+#[tactic(auto, using(std::proofs::lemmas::Bool::Decides::nat_tests), unfolding(crate::specs::Names::NameStart))]
 fn is_name_start(c: u8) -> bool
     ensures { result ≡ NameStart c }
 {
     matches!(c, b'A'..=b'Z' | b'a'..=b'z' | b'_')
 }
 
+#[tactic(auto, using(std::proofs::lemmas::Bool::Decides::nat_tests), unfolding(crate::specs::Names::NameStart, crate::specs::Names::NameContinue))]
 fn is_name_continue(c: u8) -> bool
     ensures { result ≡ NameContinue c }
 {

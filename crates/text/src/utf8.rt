@@ -48,6 +48,7 @@ fn least(size: usize) -> u32
 }
 
 // Whether a sequence of `size` bytes may spell `point`: not overlong, no surrogate, none above the last code point.
+#[tactic(auto, using(std::proofs::lemmas::Bool::Decides::nat_tests), unfolding(crate::specs::Utf8::allowed))]
 fn is_allowed(point: u32, size: usize) -> bool
     ensures { result ≡ allowed size point }
 {
