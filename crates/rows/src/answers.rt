@@ -7,7 +7,7 @@ use crate::layout::{Range, cell};
 
 pub const ANSWER_WIDTH: usize = 5;
 
-#[derive(Clone, Copy)]
+#[derive(Clone, Copy, PartialEq, Eq, Debug)]
 pub enum Answer {
     Skip,
     Error,

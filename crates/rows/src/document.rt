@@ -19,7 +19,7 @@ pub const GIVEN_WIDTH: usize = 2;
 pub const FRAGMENT_WIDTH: usize = 3;
 
 // A skip or an include.
-#[derive(Clone, Copy)]
+#[derive(Clone, Copy, PartialEq, Eq, Debug)]
 pub enum Condition {
     Absent,
     False,
@@ -28,7 +28,7 @@ pub enum Condition {
 }
 
 // A field of a selection set; its child set is 0 where it has none.
-#[derive(Clone, Copy)]
+#[derive(Clone, Copy, PartialEq, Eq, Debug)]
 pub struct FieldSelection {
     pub name: u32,
     pub key: u32,
@@ -37,7 +37,7 @@ pub struct FieldSelection {
     pub ty: u32,
 }
 
-#[derive(Clone, Copy)]
+#[derive(Clone, Copy, PartialEq, Eq, Debug)]
 pub enum Selected {
     Field(FieldSelection),
     Spread { name: u32 },
@@ -45,7 +45,7 @@ pub enum Selected {
     Unknown,
 }
 
-#[derive(Clone, Copy)]
+#[derive(Clone, Copy, PartialEq, Eq, Debug)]
 pub struct Selection {
     pub what: Selected,
     pub skip: Condition,
@@ -53,13 +53,13 @@ pub struct Selection {
     pub place: u32,
 }
 
-#[derive(Clone, Copy)]
+#[derive(Clone, Copy, PartialEq, Eq, Debug)]
 pub struct Given {
     pub name: u32,
     pub literal: u32,
 }
 
-#[derive(Clone, Copy)]
+#[derive(Clone, Copy, PartialEq, Eq, Debug)]
 pub struct Fragment {
     pub name: u32,
     pub condition: u32,
@@ -77,19 +77,17 @@ pub fn set_at(sets: &[u32], row: u32) -> Range
     }
 }
 
-fn condition_of(word: u32) -> Condition
-    ensures { result ≡ condition_of word }
-{
-    if word == 0 {
-        return Condition::Absent;
+impl From<u32> for Condition {
+    ghost from_gives = { λ word condition. condition ≡ condition_of word };
+
+    fn from(word: u32) -> Condition {
+        match word {
+            0 => Condition::Absent,
+            1 => Condition::False,
+            2 => Condition::True,
+            _ => Condition::Variable(word - 3),
+        }
     }
-    if word == 1 {
-        return Condition::False;
-    }
-    if word == 2 {
-        return Condition::True;
-    }
-    Condition::Variable(word - 3)
 }
 
 // A selection as a field, whatever it is.
@@ -152,8 +150,8 @@ pub fn selection_at(selections: &[u32], row: u32) -> Selection
     ensures { result ≡ selection_at selections.now row }
 {
     let at = row as usize;
-    let skip = condition_of(cell(selections, SELECTION_WIDTH, at, SELECTION_SKIP));
-    let include = condition_of(cell(selections, SELECTION_WIDTH, at, SELECTION_INCLUDE));
+    let skip = Condition::from(cell(selections, SELECTION_WIDTH, at, SELECTION_SKIP));
+    let include = Condition::from(cell(selections, SELECTION_WIDTH, at, SELECTION_INCLUDE));
     let place = cell(selections, SELECTION_WIDTH, at, SELECTION_PLACE);
     let what = what_is_selected(selections, row);
     Selection {

@@ -16,7 +16,7 @@ pub const LITERAL_WIDTH: usize = 5;
 pub const VARIABLE_WIDTH: usize = 2;
 
 // A JSON value. Of an integer the low half stands first; a negative one is given by its magnitude.
-#[derive(Clone, Copy)]
+#[derive(Clone, Copy, PartialEq, Eq, Debug)]
 pub enum Node {
     Null,
     False,
@@ -31,7 +31,7 @@ pub enum Node {
 }
 
 // A literal of the document or of a default. An integer is given by its magnitude.
-#[derive(Clone, Copy)]
+#[derive(Clone, Copy, PartialEq, Eq, Debug)]
 pub enum Literal {
     Null,
     False,
@@ -47,7 +47,7 @@ pub enum Literal {
     Unknown,
 }
 
-#[derive(Clone, Copy)]
+#[derive(Clone, Copy, PartialEq, Eq, Debug)]
 pub struct VariableValue {
     pub name: u32,
     pub node: u32,

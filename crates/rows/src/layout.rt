@@ -5,7 +5,7 @@ ghost use Rattle.rows.specs.Rows.{rows_of, cell as Rows·cell, option_of};
 use crate::limits::MOST_ROWS;
 
 // Rows that follow one another.
-#[derive(Clone, Copy)]
+#[derive(Clone, Copy, PartialEq, Eq, Debug)]
 pub struct Range {
     pub first: u32,
     pub count: u32,
@@ -16,12 +16,7 @@ pub fn row_count(t: &[u32], width: usize) -> u32
     requires { 0 < width }
     ensures { result ≡ rows_of t.now width }
 {
-    let n = t.len() / width;
-    if n < MOST_ROWS {
-        n as u32
-    } else {
-        MOST_ROWS as u32
-    }
+    (t.len() / width).min(MOST_ROWS) as u32
 }
 
 // The word in a column of a row; 0 where the table ends before it.
@@ -42,10 +37,11 @@ pub fn word(t: &[u32], width: usize, row: u32, column: usize) -> u32
     t[(row as usize) * width + column]
 }
 
+// A word that may name a row: 0 for none, and otherwise one more than the row's number.
 pub(crate) fn optional_row(word: u32) -> Option<u32>
     ensures { result ≡ option_of word }
 {
-    if word == 0 { None } else { Some(word - 1) }
+    word.checked_sub(1)
 }
 
 // Both sides are looked at in any case: straight code is proved by rewriting with what each side is.
