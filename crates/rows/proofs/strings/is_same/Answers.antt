@@ -1,6 +1,7 @@
--- Texts of different lengths are not the same; of one length, the blocks decide. Assumes nothing.
-use Rattle.rows.proofs.Same.{same_lengths}
+-- `==` is `same`, byte by byte. Assumes nothing.
+use mathlib.Core.Path.{◌∙◌}
+use Rattle.rows.proofs.Same.{same_pointwise}
 use Rattle.rows.proofs.strings.is_same.Goals as goal
 
-pub returns-then-a-b : goal.returns-then-a-b
-returns-then-a-b c = search same_lengths
+pub returns : goal.returns
+returns c = c.eq.ensures ∙ same_pointwise _ _
