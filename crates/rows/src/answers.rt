@@ -35,6 +35,7 @@ fn answer_of(kind: u32, a: u32, b: u32, c: u32) -> Answer
     }
 }
 
+#[tactic(auto, unfolding(crate::specs::Answers::answer_at))]
 pub fn answer_at(answers: &[u32], row: u32) -> Answer
     ensures { result ≡ answer_at answers.now row }
 {

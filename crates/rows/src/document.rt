@@ -67,6 +67,7 @@ pub struct Fragment {
 }
 
 // The selections of a set.
+#[tactic(auto, unfolding(crate::specs::Document::set_at))]
 pub fn set_at(sets: &[u32], row: u32) -> Range
     ensures { result ≡ set_at sets.now row }
 {
@@ -91,6 +92,7 @@ impl From<u32> for Condition {
 }
 
 // A selection as a field, whatever it is.
+#[tactic(auto, unfolding(crate::specs::Document::field_selection))]
 pub fn field_selection(selections: &[u32], row: u32) -> FieldSelection
     ensures { result ≡ field_selection selections.now row }
 {
@@ -108,12 +110,14 @@ pub fn field_selection(selections: &[u32], row: u32) -> FieldSelection
 }
 
 // Where a selection stands in the document.
+#[tactic(auto, unfolding(crate::specs::Document::selection_at))]
 pub fn selection_place(selections: &[u32], row: u32) -> u32
     ensures { result ≡ (selection_at selections.now row).place }
 {
     cell(selections, SELECTION_WIDTH, row as usize, SELECTION_PLACE)
 }
 
+#[tactic(auto, unfolding(crate::specs::Document::spread_selection))]
 fn spread_selection(selections: &[u32], row: u32) -> Selected
     ensures { result ≡ spread_selection selections.now row }
 {
@@ -122,6 +126,7 @@ fn spread_selection(selections: &[u32], row: u32) -> Selected
     }
 }
 
+#[tactic(auto, unfolding(crate::specs::Document::inline_selection))]
 fn inline_selection(selections: &[u32], row: u32) -> Selected
     ensures { result ≡ inline_selection selections.now row }
 {
@@ -134,6 +139,7 @@ fn inline_selection(selections: &[u32], row: u32) -> Selected
 }
 
 // What a selection is, without its conditions and its place.
+#[tactic(auto, unfolding(crate::specs::Document::selection_of))]
 pub fn what_is_selected(selections: &[u32], row: u32) -> Selected
     ensures { result ≡ selection_of selections.now row }
 {
@@ -146,6 +152,7 @@ pub fn what_is_selected(selections: &[u32], row: u32) -> Selected
     }
 }
 
+#[tactic(auto, unfolding(crate::specs::Document::selection_at))]
 pub fn selection_at(selections: &[u32], row: u32) -> Selection
     ensures { result ≡ selection_at selections.now row }
 {
@@ -162,6 +169,7 @@ pub fn selection_at(selections: &[u32], row: u32) -> Selection
     }
 }
 
+#[tactic(auto, unfolding(crate::specs::Document::given_at))]
 pub fn given_at(given: &[u32], row: u32) -> Given
     ensures { result ≡ given_at given.now row }
 {
@@ -172,6 +180,7 @@ pub fn given_at(given: &[u32], row: u32) -> Given
     }
 }
 
+#[tactic(auto, unfolding(crate::specs::Document::fragment_at))]
 pub fn fragment_at(fragments: &[u32], row: u32) -> Fragment
     ensures { result ≡ fragment_at fragments.now row }
 {

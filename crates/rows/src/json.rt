@@ -70,6 +70,7 @@ fn node_of(kind: u32, a: u32, b: u32) -> Node
     }
 }
 
+#[tactic(auto, unfolding(crate::specs::Json::node_at))]
 pub fn node_at(nodes: &[u32], row: u32) -> Node
     ensures { result ≡ node_at nodes.now row }
 {
@@ -81,6 +82,7 @@ pub fn node_at(nodes: &[u32], row: u32) -> Node
 }
 
 // The key of a node that is a child of an object.
+#[tactic(auto, unfolding(crate::specs::Json::node_key))]
 pub fn node_key(nodes: &[u32], row: usize) -> Text
     requires { row < 2 ^ 40 }
     ensures { result ≡ node_key nodes.now row }
@@ -110,6 +112,7 @@ fn literal_of(kind: u32, a: u32, b: u32) -> Literal
     }
 }
 
+#[tactic(auto, unfolding(crate::specs::Json::literal_at))]
 pub fn literal_at(literals: &[u32], row: u32) -> Literal
     ensures { result ≡ literal_at literals.now row }
 {
@@ -133,6 +136,7 @@ pub fn literal_key(literals: &[u32], row: u32) -> u32
     cell(literals, LITERAL_WIDTH, row as usize, LITERAL_KEY)
 }
 
+#[tactic(auto, unfolding(crate::specs::Json::variable_at))]
 pub fn variable_at(variables: &[u32], row: u32) -> VariableValue
     ensures { result ≡ variable_at variables.now row }
 {

@@ -12,6 +12,7 @@ pub struct Range {
 }
 
 // How many rows a table has. A row's number is a word, so no more are counted than words can number.
+#[tactic(auto, unfolding(crate::specs::Rows::rows_of))]
 pub fn row_count(t: &[u32], width: usize) -> u32
     requires { 0 < width }
     ensures { result ≡ rows_of t.now width }
@@ -20,6 +21,7 @@ pub fn row_count(t: &[u32], width: usize) -> u32
 }
 
 // The word in a column of a row; 0 where the table ends before it.
+#[tactic(auto, unfolding(crate::specs::Rows::cell))]
 pub fn cell(t: &[u32], width: usize, row: usize, column: usize) -> u32
     requires { (row < 2 ^ 40) × (width ≤ 16) × (column < 16) }
     ensures { result ≡ Rows·cell t.now width row column }
@@ -29,6 +31,7 @@ pub fn cell(t: &[u32], width: usize, row: usize, column: usize) -> u32
 }
 
 // The same, where the row is there.
+#[tactic(auto, using(crate::proofs::Cells::cell_there), unfolding(crate::specs::Rows::cell))]
 pub fn word(t: &[u32], width: usize, row: u32, column: usize) -> u32
     requires width_bound { (width ≤ 16) × (column < width) }
     requires row_bound { row < rows_of t.now width }

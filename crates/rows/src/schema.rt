@@ -81,6 +81,7 @@ fn type_ref_of(kind: u32, non_null: u32, of: u32) -> TypeRef
     }
 }
 
+#[tactic(auto, unfolding(crate::specs::Schema::type_ref_at))]
 pub fn type_ref_at(type_refs: &[u32], row: u32) -> TypeRef
     ensures { result ≡ type_ref_at type_refs.now row }
 {
@@ -107,6 +108,7 @@ impl From<u32> for TypeKind {
     }
 }
 
+#[tactic(auto, unfolding(crate::specs::Schema::type_at))]
 pub fn type_at(types: &[u32], row: u32) -> TypeDef
     ensures { result ≡ type_at types.now row }
 {
@@ -133,6 +135,7 @@ pub fn member_at(members: &[u32], row: u32) -> u32
     cell(members, MEMBER_WIDTH, row as usize, MEMBER_NAME)
 }
 
+#[tactic(auto, unfolding(crate::specs::Schema::field_at))]
 pub fn field_at(fields: &[u32], row: u32) -> Field
     ensures { result ≡ field_at fields.now row }
 {
@@ -150,6 +153,7 @@ pub fn field_at(fields: &[u32], row: u32) -> Field
     }
 }
 
+#[tactic(auto, unfolding(crate::specs::Schema::argument_at))]
 pub fn argument_at(arguments: &[u32], row: u32) -> Argument
     ensures { result ≡ argument_at arguments.now row }
 {

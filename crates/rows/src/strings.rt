@@ -10,6 +10,7 @@ pub struct Text {
 }
 
 // The string's bytes; those that the pool has, where it ends before them.
+#[tactic(auto, using(crate::proofs::Cells::text_cut, crate::proofs::Cells::text_none))]
 pub fn text_of(pool: &[u8], text: Text) -> &[u8]
     ensures { result.now ≡ text_of pool.now text }
 {
@@ -27,6 +28,7 @@ pub fn text_of(pool: &[u8], text: Text) -> &[u8]
 }
 
 // The same bytes.
+#[tactic(auto, using(crate::proofs::Same::same_pointwise))]
 pub fn is_same(a: &[u8], b: &[u8]) -> bool
     ensures { result ≡ same a.now b.now }
 {
