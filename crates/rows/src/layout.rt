@@ -1,5 +1,5 @@
 // What every table has: rows of a fixed width, and words in columns.
-ghost use Rattle.std.specs.Prelude.{◌≡◌, ◌&&◌, ◌≤◌, ◌<◌, ◌^◌};
+ghost use Rattle.std.specs.Prelude.{◌≡◌, ◌≤◌, ◌<◌, ◌^◌};
 ghost use Rattle.rows.specs.Rows.{rows_of, cell as Rows·cell, option_of};
 
 use crate::limits::MOST_ROWS;
@@ -45,11 +45,4 @@ pub(crate) fn optional_row(word: u32) -> Option<u32>
     ensures { result ≡ option_of word }
 {
     word.checked_sub(1)
-}
-
-// Both sides are looked at in any case: straight code is proved by rewriting with what each side is.
-pub fn both(a: bool, b: bool) -> bool
-    ensures { result ≡ (a && b) }
-{
-    a & b
 }
