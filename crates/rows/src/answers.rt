@@ -18,6 +18,7 @@ pub enum Answer {
     Unknown,
 }
 
+// It takes several words, so it stays a function: `From` of a tuple is no plainer.
 fn answer_of(kind: u32, a: u32, b: u32, c: u32) -> Answer
     ensures { result ≡ answer_of kind a b c }
 {

@@ -27,7 +27,8 @@ pub enum Condition {
     Variable(u32),
 }
 
-// A field of a selection set; its child set is 0 where it has none.
+// A field of a selection set; its child set is 0 where it has none. That is the word itself and no `Option`: the definition
+// `field_selection` has it so, and the rules speak of every number in that column.
 #[derive(Clone, Copy, PartialEq, Eq, Debug)]
 pub struct FieldSelection {
     pub name: u32,

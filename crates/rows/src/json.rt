@@ -53,6 +53,7 @@ pub struct VariableValue {
     pub node: u32,
 }
 
+// It takes several words, so it stays a function: `From` of a tuple is no plainer.
 fn node_of(kind: u32, a: u32, b: u32) -> Node
     ensures { result ≡ node_of kind a b }
 {
@@ -93,6 +94,7 @@ pub fn node_key(nodes: &[u32], row: usize) -> Text
     }
 }
 
+// It takes several words, so it stays a function: `From` of a tuple is no plainer.
 fn literal_of(kind: u32, a: u32, b: u32) -> Literal
     ensures { result ≡ literal_of kind a b }
 {

@@ -64,6 +64,7 @@ pub struct Argument {
     pub place: u32,
 }
 
+// It takes several words, so it stays a function: `From` of a tuple is no plainer.
 fn type_ref_of(kind: u32, non_null: u32, of: u32) -> TypeRef
     ensures { result ≡ type_ref_of kind non_null of }
 {
