@@ -8,14 +8,14 @@ use codes::outcome::Outcome;
 use codes::report::Reported;
 use tokens::json::put_null;
 use walking::state::{Completed, Done, Failure};
-use writing::place::{clear, clear_words};
+use writing::place::clear;
 
 // A code, and nothing but zeros.
 pub fn refuse(text: &mut [u8], errors: &mut [u32], code: u32) -> Reported
     ensures { Reports (length text.old) (length errors.old) (refused code) result text.new errors.new }
 {
     clear(text, 0);
-    clear_words(errors, 0);
+    clear(errors, 0);
     Reported {
         code: code,
         bytes: 0,
@@ -51,7 +51,7 @@ fn report(text: &mut [u8], errors: &mut [u32], at: usize, errs: usize) -> Report
         return refuse(text, errors, Outcome::RecordsTooLong.code());
     }
     clear(text, at);
-    clear_words(errors, errs);
+    clear(errors, errs);
     Reported {
         code: Outcome::Answered.code(),
         bytes: at as u32,

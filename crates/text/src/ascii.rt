@@ -8,11 +8,11 @@ ghost use Rattle.text.specs.Found.{PastAscii};
 pub fn is_ascii(s: &[u8]) -> bool
     ensures { result ≡ is_ascii s.now }
 {
-    let mut gathered: u8 = 0;
-    for i in 0..s.len() {
-        gathered = gathered | s[i];
+    let mut gathered = 0;
+    for byte in s {
+        gathered |= *byte;
     }
-    gathered < 0x80
+    gathered.is_ascii()
 }
 
 // The position past the blocks of `size` bytes, from `from` on, each of which is US-ASCII.
@@ -22,12 +22,11 @@ fn past_blocks(s: &[u8], from: usize, size: usize) -> usize
     ensures { PastAscii s.now size from result }
 {
     let mut at = from;
-    while size <= s.len() - at {
-        let end = at + size;
-        if !is_ascii(&s[at..end]) {
-            return at;
+    for block in s[from..].chunks_exact(size) {
+        if !is_ascii(block) {
+            break;
         }
-        at = end;
+        at += size;
     }
     at
 }

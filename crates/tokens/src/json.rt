@@ -5,7 +5,7 @@ ghost use Rattle.tokens.specs.Literal.{null_name, true_name, false_name};
 ghost use Rattle.tokens.specs.Decimal.{decimal, four_digits, eight_digits};
 ghost use Rattle.tokens.specs.Escape.{escape_letter, hex_digit, code_point_escape, is_plain, all_plain, escaped, escaped_all, quoted};
 
-use writing::write::{eight_at, put, put_all, put_fitting, put_four};
+use writing::write::{bytes_at, put, put_all, put_fitting, put_four};
 
 pub fn put_null(text: &mut [u8], at: usize) -> usize
     ensures { Writes text.old text.new at result null_name }
@@ -243,8 +243,8 @@ fn are_few_plain(s: &[u8]) -> bool
 {
     if 8 <= s.len() {
         let rest = s.len() - 8;
-        let first = eight_at(s, 0);
-        let last = eight_at(s, rest);
+        let first = bytes_at::<8>(s, 0);
+        let last = bytes_at::<8>(s, rest);
         return are_plain(&first) & are_plain(&last);
     }
     if 4 <= s.len() {

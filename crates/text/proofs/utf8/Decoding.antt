@@ -15,7 +15,7 @@ use Rattle.text.specs.Utf8.{UTF8-tail, is_utf8, octets_after, Leads, two, three,
 use Rattle.text.specs.Ascii.{is_ascii}
 use Rattle.text.specs.Found.{PastAscii, ReadChar, Decodes}
 use Rattle.text.specs.declared.utf8.Decoded.{Decoded}
-use Rattle.text.specs.declared.utf8.Decoded.TheVariants.{Char, Bad}
+use Rattle.std.specs.Prelude.{Option, Some, None}
 use Rattle.text.proofs.Reading.{drop_here, drop_over, le_or_lt}
 use Rattle.text.proofs.utf8.Sequences.{completes, sequence, no_sequence}
 use Rattle.text.proofs.utf8.Parts.{ascii_before}
@@ -223,19 +223,19 @@ module _ (s : List ℕ) (at next : ℕ) (past : PastAscii s 1 at next) where
       (λ (p : at < next). omega arith)
       (le_or_lt next at)
 
-module _ (s : List ℕ) (at : ℕ) (found : Decoded) (decodes : Decodes s at found) where
-  module _ (point next : ℕ) (e : found ≡ Char point next) where
-    read_char : ReadChar s at point next
-    read_char = subst (λ (d : Decoded). Decodes s at d) e decodes
+module _ (s : List ℕ) (at : ℕ) (found : Option Decoded) (decodes : Decodes s at found) where
+  module _ (character : Decoded) (e : found ≡ Some character) where
+    read_char : ReadChar s at character.point character.next
+    read_char = subst (λ (d : Option Decoded). Decodes s at d) e decodes
 
-    pub utf8_nearer : at < length s → length s - next < length s - at
+    pub utf8_nearer : at < length s → length s - character.next < length s - at
     utf8_nearer h = let char = read_char in omega arith
 
-    pub utf8_more : is_utf8 s ≡ is_utf8 (drop at s) → is_utf8 s ≡ is_utf8 (drop next s)
+    pub utf8_more : is_utf8 s ≡ is_utf8 (drop at s) → is_utf8 s ≡ is_utf8 (drop character.next s)
     utf8_more inv = inv ∙ read_char.same
 
-  pub utf8_broken : found ≡ Bad → is_utf8 s ≡ is_utf8 (drop at s) → false ≡ is_utf8 s
-  utf8_broken e inv = sym (inv ∙ subst (λ (d : Decoded). Decodes s at d) e decodes)
+  pub utf8_broken : found ≡ None → is_utf8 s ≡ is_utf8 (drop at s) → false ≡ is_utf8 s
+  utf8_broken e inv = sym (inv ∙ subst (λ (d : Option Decoded). Decodes s at d) e decodes)
 
 pub utf8_ended : (s : List ℕ) (at : ℕ) → is_utf8 s ≡ is_utf8 (drop at s) → length s ≤ at → true ≡ is_utf8 s
 unfolding is_utf8 octets_after

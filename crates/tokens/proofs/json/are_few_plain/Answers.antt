@@ -10,8 +10,8 @@ use Rattle.tokens.proofs.EscapeLaws.{all_plain_lapped}
 use Rattle.tokens.proofs.json.are_few_plain.Goals as goal
 
 pub returns-then-s-ge8 : goal.returns-then-s-ge8
-returns-then-s-ge8 c = (λ i. (c.are_plain.ensures ∙ ap all_plain c.eight_at-first.ensures) i
-    && (c.are_plain-then-s-ge8.ensures ∙ ap all_plain c.eight_at-last.ensures) i)
+returns-then-s-ge8 c = (λ i. (c.are_plain.ensures ∙ ap all_plain c.bytes_at-first.ensures) i
+    && (c.are_plain-then-s-ge8.ensures ∙ ap all_plain c.bytes_at-last.ensures) i)
     ∙ all_plain_lapped 8 _ c.if-s-ge8.true c.requires
 
 pub returns-then-s-ge4 : goal.returns-then-s-ge4
