@@ -190,12 +190,7 @@ fn children_are_larger(selections: &[u32], set: u32, rows: Range) -> bool
 {
     let first = rows.first as usize;
     let count = rows.count;
-    for i in 0..count {
-        if !child_is_larger(selections, set, first + (i as usize)) {
-            return false;
-        }
-    }
-    true
+    (0..count).all(|i| child_is_larger(selections, set, first + (i as usize)))
 }
 
 pub fn child_sets_are_larger(sets: &[u32], selections: &[u32], row: u32) -> bool
@@ -223,12 +218,7 @@ fn owns_other(selections: &[u32], set: u32, row: u32) -> bool
 fn is_owned_nowhere(selections: &[u32], set: u32, n: u32) -> bool
     ensures { result ≡ owned_nowhere selections.now set n }
 {
-    for j in 0..n {
-        if !owns_other(selections, set, j) {
-            return false;
-        }
-    }
-    true
+    (0..n).all(|j| owns_other(selections, set, j))
 }
 
 fn is_alone(selections: &[u32], row: u32, owned: Option<u32>) -> bool

@@ -72,10 +72,5 @@ fn is_other_name(pool: &[u8], names: &[u32], one: u32, two: u32) -> bool
 pub fn name_is_new(pool: &[u8], names: &[u32], row: u32) -> bool
     ensures { result ≡ name_new pool.now names.now row }
 {
-    for j in 0..row {
-        if !is_other_name(pool, names, row, j) {
-            return false;
-        }
-    }
-    true
+    (0..row).all(|j| is_other_name(pool, names, row, j))
 }
