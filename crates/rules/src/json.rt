@@ -125,17 +125,7 @@ fn literal_parts(literals: &[u32], literal: Literal) -> bool
 {
     match literal {
         Literal::Object(rows) => is_distinct(literals, LITERAL_WIDTH, LITERAL_KEY, rows),
-        Literal::Null => true,
-        Literal::False => true,
-        Literal::True => true,
-        Literal::Natural(_) => true,
-        Literal::Negative(_) => true,
-        Literal::Float(_) => true,
-        Literal::String(_) => true,
-        Literal::List(_) => true,
-        Literal::Enum(_) => true,
-        Literal::Variable(_) => true,
-        Literal::Unknown => true,
+        _ => true,
     }
 }
 
