@@ -7,7 +7,7 @@ use native.Mathlib.Omega.{arith}
 use Rattle.tables.proofs.defaults.mark_all.Goals as goal
 
 pub loop-row-init : goal.loop-row-init
-loop-row-init c = (search rules, rw c.row_count-row.ensures c.requires.marked)
+loop-row-init c = (search rules, rw c.row_count-rows.ensures c.requires.marked)
 
 pub mark_row-requires : goal.mark_row-requires
 mark_row-requires c = let same : c.loop-row.row - 1 + 1 ≡ c.loop-row.row = omega arith in

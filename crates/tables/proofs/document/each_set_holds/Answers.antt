@@ -22,7 +22,7 @@ one_more sets selections set n r p h e t k l m = go (dec_le set k)
     go (no x) = let same : set - 1 ≡ k = omega arith in rw (← same) (verified r (set_holds sets selections (set - 1)) e t)
 
 pub loop-set-init : goal.loop-set-init
-loop-set-init c = (omega (arith, c.row_count-set.ensures), skips_none _ _, λ k l m. absurd (omega (arith, c.row_count-set.ensures)))
+loop-set-init c = (omega (arith, c.row_count-set_count.ensures), skips_none _ _, λ k l m. absurd (omega (arith, c.row_count-set_count.ensures)))
 
 pub slice_bounds-set_holds-end : goal.slice_bounds-set_holds-end
 slice_bounds-set_holds-end c = sym c.loop-set.invariant.1.room
