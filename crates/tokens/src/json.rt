@@ -5,7 +5,7 @@ ghost use Rattle.tokens.specs.Literal.{null_name, true_name, false_name};
 ghost use Rattle.tokens.specs.Decimal.{decimal, four_digits, eight_digits};
 ghost use Rattle.tokens.specs.Escape.{escape_letter, hex_digit, code_point_escape, is_plain, all_plain, escaped, escaped_all, quoted};
 
-use writing::write::{bytes_at, put, put_all, put_fitting, put_four};
+use writing::write::{put, put_all, put_fitting, put_four};
 
 pub fn put_null(text: &mut [u8], at: usize) -> usize
     ensures { Writes text.old text.new at result null_name }
@@ -213,15 +213,13 @@ fn put_block_escaped(text: &mut [u8], at: usize, block: [u8; 16]) -> usize
     put_each_escaped(text, at, &block)
 }
 
-// Whether each of `N` bytes to twice as many stands for itself: the first `N` and the last `N`, whatever they have in common.
+// Whether each of `N` bytes to twice as many stands for itself: the first `N` and the last `N`, whatever they have in common. They are
+// looked at where they are: out of a copy the compiler would take them byte by byte.
 fn are_lapped_plain<const N: usize>(s: &[u8]) -> bool
     requires { (N ≤ length s.now) × (length s.now ≤ N + N) }
     ensures { result ≡ all_plain s.now }
 {
-    let rest = s.len() - N;
-    let first: [u8; N] = bytes_at(s, 0);
-    let last: [u8; N] = bytes_at(s, rest);
-    are_plain(&first) & are_plain(&last)
+    are_plain(&s[..N]) & are_plain(&s[s.len() - N..])
 }
 
 // Whether each of at most sixteen bytes stands for itself, by eights or by fours. No loop is left at a byte that nothing foretells.
