@@ -8,7 +8,6 @@ ghost use Rattle.introspection.specs.MaxDepth.{Answers, meant, Walkable, ChecksS
 use codes::outcome::Outcome;
 use lookup::named::fragment_named;
 use rows::document::{FieldSelection, Selected, fragment_at, selection_at, set_at};
-use rows::layout::both;
 use tables::check::{LAWFUL, table_check};
 
 const MAX_LISTS_DEPTH: u32 = 3;
@@ -57,7 +56,7 @@ fn rise(depth_so_far: u32, depth: u32) -> u32
 fn is_list(name: u32) -> bool
     ensures { result ≡ (leb 'fields name && leb name 'inputFields) }
 {
-    both(FIRST_LIST <= name, name <= LAST_LIST)
+    FIRST_LIST <= name && name <= LAST_LIST
 }
 
 // `room` is how many sets may still be opened. `marks` has for each fragment 0 where it was not met, and otherwise one
