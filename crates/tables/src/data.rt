@@ -25,6 +25,7 @@ use rules::json::{literal_is_lawful, node_is_lawful, variable_row};
 use rules::strings::{Pool, is_string};
 
 // `count` is how many nodes there are.
+#[tactic(auto, unfolding(crate::specs::ByTable::node_holds, rows::specs::Json::node_at, rows::specs::Json::node_key))]
 fn node_holds(pool: &Pool, count: u32, nodes: &[u32], row: u32) -> bool
     requires row_bound { row < rows_of nodes.now node_width }
     ensures { result ≡ node_holds pool.now count nodes.now row }
@@ -47,6 +48,7 @@ fn node_holds(pool: &Pool, count: u32, nodes: &[u32], row: u32) -> bool
 }
 
 // A node that has fewer than two keys to compare.
+#[tactic(auto, using(distinct::proofs::Plain::no_object), unfolding(rows::specs::Json::node_at))]
 fn node_is_plain(nodes: &[u32], row: u32) -> bool
     requires { row < rows_of nodes.now node_width }
     ensures { result ≡ is_plain nodes.now row }
@@ -138,6 +140,7 @@ fn each_variable_holds(names: u32, nodes: u32, variables: &[u32]) -> bool
 }
 
 // `count` is how many answers there are.
+#[tactic(auto, unfolding(rows::specs::Answers::answer_at))]
 fn answer_holds(names: u32, nodes: u32, count: u32, answers: &[u32], row: u32) -> bool
     requires { row < rows_of answers.now answer_width }
     ensures { result ≡ answer_row names nodes count answers.now row }

@@ -40,6 +40,7 @@ fn is_closed(runs: &[u16], kind: u32, a: u32, b: u32) -> bool
     }
 }
 
+#[tactic(auto, unfolding(rows::specs::Json::literal_at))]
 fn row_is_closed(literals: &[u32], runs: &[u16], row: u32) -> bool
     requires { row < rows_of literals.now literal_width }
     ensures { result ≡ closed_in runs.now (literal_at literals.now row) }

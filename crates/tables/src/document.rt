@@ -20,6 +20,7 @@ use rows::layout::{Range, row_count, word};
 use rows::limits::MOST_SELECTIONS;
 use rules::document::{child_is_larger, fragment_row, selection_is_lawful, set_row};
 
+#[tactic(auto, unfolding(rows::specs::Document::given_at))]
 fn given_holds(names: u32, literals: u32, given: &[u32], row: u32) -> bool
     requires { row < rows_of given.now given_width }
     ensures { result ≡ given_row names literals given.now row }

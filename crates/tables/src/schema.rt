@@ -24,6 +24,7 @@ use rules::schema::{
     field_is_lawful, is_typed, root_is_object, type_parts, type_ref_is_lawful, type_row,
 };
 
+#[tactic(auto, unfolding(crate::specs::ByTable::name_holds))]
 fn name_holds(pool: &[u8], names: &[u32], row: u32) -> bool
     ensures { result ≡ name_holds pool.now names.now row }
 {
@@ -37,6 +38,7 @@ fn each_name_holds(pool: &[u8], names: &[u32]) -> bool
     (0..count).all(|row| name_holds(pool, names, row))
 }
 
+#[tactic(auto, unfolding(rows::specs::Schema::type_ref_at))]
 fn type_ref_holds(names: u32, type_refs: &[u32], row: u32) -> bool
     requires { row < rows_of type_refs.now type_ref_width }
     ensures { result ≡ type_ref_row names type_refs.now row }
@@ -68,6 +70,7 @@ fn each_member_holds(names: u32, members: &[u32]) -> bool
     (0..count).all(|row| member_holds(names, members, row))
 }
 
+#[tactic(auto, unfolding(rows::specs::Schema::argument_at))]
 fn argument_holds(names: u32, type_refs: u32, literals: u32, arguments: &[u32], row: u32) -> bool
     requires { row < rows_of arguments.now argument_width }
     ensures { result ≡ argument_row names type_refs literals arguments.now row }
