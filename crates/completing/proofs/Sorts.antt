@@ -1,11 +1,11 @@
 -- Which sort a leaf has, by what the code is told of it. Assumes nothing.
 use mathlib.Core.Path.{◌≡◌, refl, sym, ap, ◌∙◌}
-use mathlib.Core.Bool.{Bool, true, false, cond, decide, not}
+use mathlib.Core.Bool.{Bool, true, false, cond, decide}
 use mathlib.Core.List.{List}
 use Rattle.std.specs.Prelude.{Some, None}
 use Prim.Native.Nat.{ℕ}
 use native.Mathlib.Omega.{arith}
-use lib.Dec.{T, ltb, leb}
+use lib.Dec.{ltb, leb}
 use denote.Enum.Bare.{sameb}
 use Rattle.graphql.specs.Json.{Json, null, bool, natural, negative, float, string, array, object, sort_of, is_a, string_of, sort-discrete}
 use Rattle.graphql.specs.Json as defined

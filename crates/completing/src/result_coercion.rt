@@ -5,7 +5,7 @@ ghost use Rattle.rows.specs.declared.schema.TypeKind.TheVariants as kind;
 ghost use Rattle.codes.specs.declared.errors.FieldError.TheVariants as error;
 ghost use Rattle.graphql.specs.Lookup.{non_null};
 ghost use Rattle.lookup.specs.Found.{Listed};
-ghost use Rattle.completing.specs.Judged.{is, meant, fitting, int_taken, id_taken, JudgesScalar, JudgesAt, JudgesLeaf};
+ghost use Rattle.completing.specs.Judged.{fitting, int_taken, id_taken, JudgesScalar, JudgesAt, JudgesLeaf};
 ghost use Rattle.completing.specs.Judged.{NamesType, NamesObject, TypesAt, TypesObject};
 ghost use Rattle.tables.specs.Tables.{lent};
 
@@ -31,13 +31,10 @@ fn named_type(tables: &Tables, ty: u32) -> Result<u32, FieldError>
     ensures { let t = lent tables.now in NamesType t.refs t.types ty result }
 {
     match type_ref_at(tables.type_refs, ty) {
-        TypeRef::Named { name, nullable: _ } => {
+        TypeRef::Named { name, .. } => {
             type_named(tables.types, name).ok_or(FieldError::UndefinedType)
         }
-        TypeRef::ListOf {
-            inner: _,
-            nullable: _,
-        } => Err(FieldError::ListTypeWithoutList),
+        TypeRef::ListOf { .. } => Err(FieldError::ListTypeWithoutList),
         TypeRef::Unknown => Err(FieldError::UndefinedType),
     }
 }
@@ -71,21 +68,15 @@ fn id_takes(sort: Sort) -> bool
     matches!(sort, Sort::Int | Sort::Long | Sort::String)
 }
 
-fn is(kind: Sort, sort: Sort) -> bool
-    ensures { result ≡ is (meant kind) sort }
-{
-    sort == kind
-}
-
 // "Int: a signed 64-bit integer that fits 32 bits. Float: a float only. .. Other scalars: any JSON."
 pub fn scalar_takes(name: u32, sort: Sort) -> Result<(), FieldError>
     ensures { JudgesScalar name sort result }
 {
     match name {
         INT => int_takes(sort),
-        FLOAT => fits(is(Sort::Float, sort)),
-        STRING => fits(is(Sort::String, sort)),
-        BOOLEAN => fits(is(Sort::Boolean, sort)),
+        FLOAT => fits(sort == Sort::Float),
+        STRING => fits(sort == Sort::String),
+        BOOLEAN => fits(sort == Sort::Boolean),
         ID => fits(id_takes(sort)),
         _ => Ok(()),
     }
@@ -95,7 +86,7 @@ fn enum_takes(tables: &Tables, ty: u32, sort: Sort, string: &[u8]) -> Result<(),
     requires { let t = lent tables.now in Listed t.types }
     ensures { let t = lent tables.now in JudgesAt t.pool t.names t.types t.members ty kind.Enum sort string.now result }
 {
-    if is(Sort::String, sort) && has_value(tables, ty, string) {
+    if sort == Sort::String && has_value(tables, ty, string) {
         return Ok(());
     }
     Err(FieldError::NotAnEnumValue)
