@@ -22,7 +22,7 @@ use Rattle.std.specs.Prelude.{Err}
 use Rattle.walking.specs.declared.state.Done.{Done}
 use Rattle.walking.proofs.Ended.{stopped_gives}
 use Rattle.resolving.specs.Steps.{doing}
-use Rattle.execution.specs.Ends.{planned_to, done_apart, stop_code}
+use Rattle.execution.specs.Ends.{planned_to, done_apart}
 use Rattle.execution.specs.Walk.{Left, SetReady, ObjectReady, SetDone, ObjectDone}
 use Rattle.execution.proofs.Frame.{kept_all, left_same, left_then, left_ready, left_grouped, left_members}
 

@@ -61,9 +61,9 @@ fn complete_items(
         );
         state = d.state;
         let what = d.what;
-        if let Err(failure) = what {
+        if let Err(_) = what {
             return Done {
-                what: Err(failure),
+                what: what,
                 state: moved(state, start),
             };
         }
@@ -136,12 +136,17 @@ fn execute_object(
     requires { ObjectReady (request_of (lent tables.now)) plans.old spans.old hints.old path s plan group object rows }
     ensures { ObjectDone (request_of (lent tables.now)) choices.now text.old errors.old plans.old spans.old hints.old path s plan group object rows result text.new errors.new plans.new spans.new hints.new }
 {
-    match plan_for(tables, plans, hints, s.top, plan, group, object) {
-        Err(outcome) => stopped(s, outcome),
-        Ok(None) => execute_apart(
+    let planned = match plan_for(tables, plans, hints, s.top, plan, group, object) {
+        Ok(planned) => planned,
+        Err(outcome) => {
+            return stopped(s, outcome);
+        }
+    };
+    match planned {
+        None => execute_apart(
             tables, choices, text, errors, plans, spans, hints, path, plan, group, object, rows, s,
         ),
-        Ok(Some(own)) => execute_selection_set(
+        Some(own) => execute_selection_set(
             tables,
             choices,
             text,
@@ -305,9 +310,9 @@ pub fn execute_selection_set(
         );
         state = d.state;
         let what = d.what;
-        if let Err(failure) = what {
+        if let Err(_) = what {
             return past_list(Done {
-                what: Err(failure),
+                what: what,
                 state: moved(state, start),
             });
         }

@@ -1,6 +1,7 @@
 -- The functions of the walk, by one induction: the segments that a path may still have fall. Assumes nothing.
 use Prim.Native.Nat.{◌+◌, ◌*◌, ◌-◌}
-use Rattle.resolving.specs.Sound.{asking}
+use Rattle.tables.specs.Tables.{lent}
+use Rattle.resolving.specs.Sound.{request_of}
 use Rattle.execution.proofs.Looping.{Itemizing}
 use Rattle.execution.proofs.Sets.{Grouping}
 use Rattle.execution.proofs.execution.+complete_items_enter_field_execute_apart_execute_object_execute_selection_set_go_on.Given as goal
