@@ -29,11 +29,11 @@ use Rattle.walking.specs.contracts.state.Failure.{the_type as failures}
 use Rattle.running.specs.Reporting.{Counts, ReportsWritten, ReportsEnd}
 
 -- All is zero.
-pub refuse_reports : (text errors : List ℕ) {text' errors' : List ℕ} {o : Outcome} {code : ℕ} → text' ≡ zeroed_from 0 text → errors' ≡ zeroed_from 0 errors
+pub refuse_reports : (text errors : List ℕ) {text' errors' : List ℕ} (o : Outcome) {code : ℕ} → text' ≡ zeroed_from 0 text → errors' ≡ zeroed_from 0 errors
     → code ≡ code_of o
     → Reports (length text) (length errors) (refused (code_of o)) (record { code = code; bytes = 0; words = 0; records = 0 }) text' errors'
 unfolding refused filled
-refuse_reports text errors e f c = record { code = c; bytes = refl; words = refl; records = refl; text_is = e; errors_are = f }
+refuse_reports text errors o e f c = record { code = c; bytes = refl; words = refl; records = refl; text_is = e; errors_are = f }
 
 -- ---- What was written, against its buffer
 
@@ -148,12 +148,12 @@ module _ {text errors text' errors' : List ℕ} {d : Done} {r : Reported} where
         rw p.3 (k.reports before noted p.0 p.1 (rw z at h.wrote) (rw y at h.noted));
   }
 
-  pub end_stopped : {o : Outcome} → d.what ≡ Err (Stop o)
+  pub end_stopped : {f : Failure} {o : Outcome} → d.what ≡ Err f → f ≡ Stop o
       → Reports (length text) (length errors) (refused (code_of o)) r text' errors' → ReportsEnd text errors d r text' errors'
   unfolding ended fitted
-  end_stopped e k = record {
+  end_stopped e q k = record {
     reports = λ cs before noted s x z y g.
-        let p = stop_of x e g.what in
+        let p = stop_of x (e ∙ ap Err q) g.what in
         let h = rw p.1 at g in
         rw (p.1, ← h.wrote, ← h.noted.long) k;
   }

@@ -67,12 +67,15 @@ pub fn report_end(text: &mut [u8], errors: &mut [u32], d: Done) -> Reported
     ensures { ReportsEnd text.old errors.old d result text.new errors.new }
 {
     let state = d.state;
-    match d.what {
-        Ok(_) => report(text, errors, state.at, state.errs),
-        Err(Failure::Stop(outcome)) => refuse(text, errors, outcome),
-        Err(_) => {
-            let at = put_null(text, 0);
-            report(text, errors, at, state.errs)
+    let failure = match d.what {
+        Ok(_) => {
+            return report(text, errors, state.at, state.errs);
         }
+        Err(failure) => failure,
+    };
+    if let Failure::Stop(outcome) = failure {
+        return refuse(text, errors, outcome);
     }
+    let at = put_null(text, 0);
+    report(text, errors, at, state.errs)
 }
