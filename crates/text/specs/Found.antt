@@ -29,8 +29,3 @@ pub record ReadChar (s : List ℕ) (at point next : ℕ) : Type 0 where
 abbrev pub Decodes : List ℕ → ℕ → Option Decoded → Type 0
 Decodes s at (Some character) = ReadChar s at character.point character.next
 Decodes s at None = is_utf8 (drop at s) ≡ false
-
--- what stands behind a part of a number that was looked for
-abbrev pub rest : List ℕ → Option ℕ → Option (List ℕ)
-rest s (Some at) = Some (drop at s)
-rest s None = None

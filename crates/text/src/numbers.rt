@@ -1,84 +1,69 @@
 // The spelling of a float: a number of RFC 8259, section 6, that has a fraction or an exponent.
-// Each function looks for one part of the grammar at a position and says where the part ends, if it is there.
-ghost use Rattle.std.specs.Prelude.{◌≡◌, drop, eqb};
+// Each function looks for one part of the grammar at the beginning of a text and gives what stands behind it, if it is there.
+ghost use Rattle.std.specs.Prelude.{◌≡◌, option_copied};
 ghost use Rattle.text.specs.Numbers.{minus, sign, digits, digits1, int, frac, exp, frac_or_exp, is_float};
-ghost use Rattle.text.specs.Grammar.{one, optional};
-ghost use Rattle.text.specs.Found.{rest};
+ghost use Rattle.text.specs.Grammar.{optional};
 
-// That one byte.
-fn find_byte(s: &[u8], at: usize, byte: u8) -> Option<usize>
-    ensures { rest s.now result ≡ one (λ c. eqb c byte) (drop at s.now) }
+// Past all the digits.
+fn past_digits(s: &[u8]) -> &[u8]
+    ensures { result.now ≡ digits s.now }
 {
-    if at < s.len() && s[at] == byte {
-        Some(at + 1)
-    } else {
-        None
+    match s.iter().position(|c| !c.is_ascii_digit()) {
+        Some(at) => &s[at..],
+        None => &[],
     }
-}
-
-// Past all the digits at `at`.
-fn past_digits(s: &[u8], at: usize) -> usize
-    ensures { drop result s.now ≡ digits (drop at s.now) }
-{
-    for i in at..s.len() {
-        if !s[i].is_ascii_digit() {
-            return i;
-        }
-    }
-    s.len()
 }
 
 // One or more digits.
-fn find_digits(s: &[u8], at: usize) -> Option<usize>
-    ensures { rest s.now result ≡ digits1 (drop at s.now) }
+fn find_digits(s: &[u8]) -> Option<&[u8]>
+    ensures { option_copied result ≡ digits1 s.now }
 {
-    if at < s.len() && s[at].is_ascii_digit() {
-        Some(past_digits(s, at + 1))
+    let past = past_digits(s);
+    if past.len() < s.len() {
+        Some(past)
     } else {
         None
     }
 }
 
-fn past_minus(s: &[u8], at: usize) -> usize
-    ensures { drop result s.now ≡ optional minus (drop at s.now) }
+fn past_minus(s: &[u8]) -> &[u8]
+    ensures { result.now ≡ optional minus s.now }
 {
-    find_byte(s, at, b'-').unwrap_or(at)
+    s.strip_prefix(b"-").unwrap_or(s)
 }
 
-fn find_int(s: &[u8], at: usize) -> Option<usize>
-    ensures { rest s.now result ≡ int (drop at s.now) }
+fn find_int(s: &[u8]) -> Option<&[u8]>
+    ensures { option_copied result ≡ int s.now }
 {
-    find_byte(s, at, b'0').or_else(|| find_digits(s, at))
+    s.strip_prefix(b"0").or_else(|| find_digits(s))
 }
 
-fn find_frac(s: &[u8], at: usize) -> Option<usize>
-    ensures { rest s.now result ≡ frac (drop at s.now) }
+fn find_frac(s: &[u8]) -> Option<&[u8]>
+    ensures { option_copied result ≡ frac s.now }
 {
-    find_digits(s, find_byte(s, at, b'.')?)
+    find_digits(s.strip_prefix(b".")?)
 }
 
-fn past_sign(s: &[u8], at: usize) -> usize
-    ensures { drop result s.now ≡ optional sign (drop at s.now) }
+fn past_sign(s: &[u8]) -> &[u8]
+    ensures { result.now ≡ optional sign s.now }
 {
-    find_byte(s, at, b'-')
-        .or(find_byte(s, at, b'+'))
-        .unwrap_or(at)
+    s.strip_prefix(b"-").or(s.strip_prefix(b"+")).unwrap_or(s)
 }
 
-fn find_exp(s: &[u8], at: usize) -> Option<usize>
-    ensures { rest s.now result ≡ exp (drop at s.now) }
+fn find_exp(s: &[u8]) -> Option<&[u8]>
+    ensures { option_copied result ≡ exp s.now }
 {
-    let past = find_byte(s, at, b'e').or(find_byte(s, at, b'E'))?;
-    find_digits(s, past_sign(s, past))
+    let past = s.strip_prefix(b"e").or(s.strip_prefix(b"E"))?;
+    find_digits(past_sign(past))
 }
 
-// Whether the text from `at` on is a fraction, an exponent or both, and nothing more.
-fn is_frac_or_exp(s: &[u8], at: usize) -> bool
-    ensures { result ≡ frac_or_exp (drop at s.now) }
+// Whether the text is a fraction, an exponent or both, and nothing more.
+fn is_frac_or_exp(s: &[u8]) -> bool
+    ensures { result ≡ frac_or_exp s.now }
 {
-    match find_frac(s, at) {
-        Some(past) => s.len() <= find_exp(s, past).unwrap_or(past),
-        None => find_exp(s, at).is_some_and(|end| s.len() <= end),
+    match find_frac(s) {
+        Some(past) => find_exp(past).unwrap_or(past).is_empty(),
+        None => find_exp(s).is_some_and(|end| end.is_empty()),
     }
 }
 
@@ -86,5 +71,5 @@ fn is_frac_or_exp(s: &[u8], at: usize) -> bool
 pub fn is_float(s: &[u8]) -> bool
     ensures { result ≡ is_float s.now }
 {
-    find_int(s, past_minus(s, 0)).is_some_and(|past| is_frac_or_exp(s, past))
+    find_int(past_minus(s)).is_some_and(is_frac_or_exp)
 }

@@ -1,66 +1,125 @@
--- What each way through the functions of `numbers` knows of the octet at its position, and what the part of the grammar that the
--- function looks for then leaves of the text.
+-- What each function of `numbers` leaves of a text is what the part of the grammar that it looks for leaves of it.
 -- Assumes nothing.
 use mathlib.Core.Path.{◌≡◌, refl, sym, ap, ◌∙◌}
-use mathlib.Core.Bool.{Bool, true, false, not, ◌&&◌, ◌||◌, and-true, and-false}
+use mathlib.Core.Bool.{Bool, true, false, not, ◌&&◌, ◌||◌, cond, and-true, and-false, true≢false}
 use mathlib.Core.Logic.{⊎_elim}
 use mathlib.Core.List.{List, [], ◌∷◌}
-use Rattle.std.specs.Prelude.{Option, Some, None, MatchOption}
+use Rattle.std.proofs.Common.{Bor}
+use Rattle.std.specs.Prelude.{Option, Some, None, MatchOption, option_copied}
 use Rattle.std.specs.Option.{unwrap_or, option_or}
-use Prim.Native.Nat.{ℕ, ◌+◌, ◌≤◌, ◌<◌}
+use Rattle.std.specs.List.{prefix_len}
+use Prim.Native.Nat.{ℕ, suc, ◌+◌, ◌-◌, ◌≤◌, ◌<◌}
 use native.Mathlib.Omega.{arith}
-use borrow.Author.Tests.{le-leb, lt-leb, eqb-false, not-true, not-false}
-use lib.Dec.{leb, eqb}
-use lib.ListN.{length, get_or, drop}
+use borrow.Author.Tests.{le-leb, eqb-false, ltb-false}
+use lib.Dec.{leb, ltb, eqb, eqb-suc-zero}
+use lib.Pointwise.{pointwise}
+use lib.ListN.{length, take, drop, length-drop}
+use lib.Seq.{take_all}
 use Rattle.text.specs.Grammar.{◌to◌, ◌∈◌, one, or_else, optional, is_end}
 use Rattle.text.specs.Numbers.{DIGIT, digits, digits1, decimal_point, digit1_9, e, minus, plus, zero, int, frac, sign, exp, frac_or_exp, is_float}
-use Rattle.text.specs.Found.{rest}
-use Rattle.text.proofs.Reading.{le_or_lt, drop_here, drop_over, below_range}
+use Rattle.text.proofs.Reading.{le_or_lt, drop_over, below_range}
 
--- ---- the digits
+-- ---- one octet
 
-module _ (s : List ℕ) (at i : ℕ) (inv : digits (drop at s) ≡ digits (drop i s)) where
-  pub digits_over : length s ≤ i → drop (length s) s ≡ digits (drop at s)
-  unfolding digits
-  digits_over h = sym (inv ∙ rw (drop_over s i h, drop_over s (length s) (omega arith)))
+-- what the library's `strip_prefix` says of a prefix of one octet
+abbrev Strips : List ℕ → ℕ → Option (Bor (List ℕ)) → Type 0
+Strips s b r =
+    MatchOption r (pointwise eqb (take 1 s) (b ∷ []) ≡ false)
+    (λ x. (pointwise eqb (take 1 s) (b ∷ []) ≡ true) × (x.now ≡ drop 1 s) × (length x.now + 1 ≡ length s))
 
-  module _ (h : i < length s) (r : Bool) (d : r ≡ DIGIT (get_or s i 0)) where
-    pub digits_stopped : not r ≡ true → drop i s ≡ digits (drop at s)
-    unfolding digits
-    digits_stopped t = sym (inv ∙ rw (drop_here s i h, ← d, not-true r t))
+stripped : (s : List ℕ) (b : ℕ) (r : Option (Bor (List ℕ))) → Strips s b r → option_copied r ≡ one (λ c. eqb c b) s
+stripped [] b None h = refl
+stripped [] b (Some x) h = absurd (true≢false (sym h.0))
+stripped (c ∷ t) b None h = let q : eqb c b ≡ false = sym (and-true (eqb c b)) ∙ h in rw q
+stripped (c ∷ t) b (Some x) h = let q : eqb c b ≡ true = sym (and-true (eqb c b)) ∙ h.0 in rw (q, h.1)
 
-    pub digits_more : not r ≡ false → digits (drop at s) ≡ digits (drop (i + 1) s)
-    unfolding digits
-    digits_more t = inv ∙ rw (drop_here s i h, ← d, not-false r t)
+-- either of two
+either : (a b : Option (Bor (List ℕ))) → option_copied (option_or a b) ≡ or_else (option_copied a) (option_copied b)
+either None b = refl
+either (Some x) b = refl
+
+either_octet : (p q : ℕ → Bool) (t : List ℕ) → or_else (one p t) (one q t) ≡ one (λ c. p c || q c) t
+either_octet p q [] = refl
+either_octet p q (c ∷ t) = by_test (p c) refl
+  where
+    by_test : (b : Bool) → p c ≡ b → or_else (one p (c ∷ t)) (one q (c ∷ t)) ≡ one (λ d. p d || q d) (c ∷ t)
+    by_test true e = rw e
+    by_test false e = rw e
+
+-- ---- digits
+
+-- how many come first
+abbrev digit_count : List ℕ → ℕ
+digit_count s = prefix_len (λ c. not (not (DIGIT c))) s
+
+digits_drop : (s : List ℕ) → digits s ≡ drop (digit_count s) s
+unfolding digits
+digits_drop [] = refl
+digits_drop (c ∷ s) = by_test (DIGIT c) refl (digits_drop s)
+  where
+    by_test : (b : Bool) → DIGIT c ≡ b → digits s ≡ drop (digit_count s) s → digits (c ∷ s) ≡ drop (digit_count (c ∷ s)) (c ∷ s)
+    by_test true q later = let more : 1 + digit_count s ≡ suc (digit_count s) = omega arith in rw (q, more) later
+    by_test false q later = rw q
+
+module _ (s : List ℕ) (r : Option ℕ) (first : r ≡ cond (ltb (digit_count s) (length s)) (Some (digit_count s)) None) where
+  pub digits_then : (at : ℕ) → r ≡ Some at → take (length s - at) (drop at s) ≡ digits s
+  digits_then at there = by_test (ltb (digit_count s) (length s)) refl
+    where
+      by_test : (t : Bool) → ltb (digit_count s) (length s) ≡ t → take (length s - at) (drop at s) ≡ digits s
+      by_test true q =
+          let same : ◌≡◌ {A = Option ℕ} (Some at) (Some (digit_count s)) = sym there ∙ first ∙ rw q in
+          let here : at ≡ digit_count s = cc in
+          take_all (length s - at) (drop at s) (simp length-drop (omega arith)) ∙ ap (λ (n : ℕ). drop n s) here ∙ sym (digits_drop s)
+      by_test false q = let z : ◌≡◌ {A = Option ℕ} (Some at) None = sym there ∙ first ∙ rw q in cc
+
+  pub digits_only : r ≡ None → [] ≡ digits s
+  digits_only missing = by_test (ltb (digit_count s) (length s)) refl
+    where
+      by_test : (t : Bool) → ltb (digit_count s) (length s) ≡ t → [] ≡ digits s
+      by_test true q = let z : ◌≡◌ {A = Option ℕ} None (Some (digit_count s)) = sym missing ∙ first ∙ rw q in cc
+      by_test false q = sym (digits_drop s ∙ drop_over s (digit_count s) (ltb-false (digit_count s) (length s) q))
+
+digits_shorter : (s : List ℕ) → length (digits s) ≤ length s
+digits_shorter s = omega (arith, ap length (digits_drop s), length-drop (digit_count s) s)
+
+-- some were passed just if the first octet is one
+pub some_digits : (s : List ℕ) → length (digits s) < length s → Some (digits s) ≡ digits1 s
+unfolding digits digits1
+some_digits [] l = absurd (omega arith)
+some_digits (c ∷ s) l = by_test (DIGIT c) refl
+  where
+    by_test : (b : Bool) → DIGIT c ≡ b → Some (digits (c ∷ s)) ≡ digits1 (c ∷ s)
+    by_test true q = rw q
+    by_test false q = let same : length (c ∷ s) < length (c ∷ s) = rw q at l in absurd (omega arith)
+
+pub no_digits : (s : List ℕ) → length s ≤ length (digits s) → None ≡ digits1 s
+unfolding digits digits1
+no_digits [] l = refl
+no_digits (c ∷ s) l = by_test (DIGIT c) refl
+  where
+    by_test : (b : Bool) → DIGIT c ≡ b → None ≡ digits1 (c ∷ s)
+    by_test true q = let more : length (c ∷ s) ≤ length (digits s) = rw q at l in absurd (omega (arith, digits_shorter s))
+    by_test false q = rw q
+
+-- ---- an optional part, which may be one of two
+
+module _ (s : Bor (List ℕ)) where
+  optional_part : (part : List ℕ → Option (List ℕ)) (r : Option (Bor (List ℕ))) → option_copied r ≡ part s.now → (unwrap_or r s).now ≡ optional part s.now
+  optional_part part None f = rw (← f)
+  optional_part part (Some x) f = rw (← f)
+
+  pub optional_minus : (r : Option (Bor (List ℕ))) (u : Bor (List ℕ)) → Strips s.now 0x2D r → u ≡ unwrap_or r s → u.now ≡ optional minus s.now
+  unfolding minus
+  optional_minus r u h e = ap (λ (x : Bor (List ℕ)). x.now) e ∙ optional_part minus r (stripped s.now 0x2D r h)
+
+  pub optional_sign : (a b r : Option (Bor (List ℕ))) (u : Bor (List ℕ)) → Strips s.now 0x2D a → Strips s.now 0x2B b → r ≡ option_or a b → u ≡ unwrap_or r s
+      → u.now ≡ optional sign s.now
+  unfolding sign minus plus
+  optional_sign a b r u f g j e =
+      ap (λ (x : Bor (List ℕ)). x.now) e
+      ∙ optional_part sign r (ap option_copied j ∙ either a b ∙ rw (stripped s.now 0x2D a f, stripped s.now 0x2B b g) refl)
 
 -- ---- a part by what was found of its own parts
-
-module _ (s : List ℕ) (at : ℕ) where
-  pub digits1_there : (past : ℕ) → at < length s → DIGIT (get_or s at 0) ≡ true → drop past s ≡ digits (drop (at + 1) s)
-      → rest s (Some past) ≡ digits1 (drop at s)
-  unfolding digits1
-  digits1_there past h y p = rw (drop_here s at h, y, p)
-
-  pub digits1_other : at < length s → DIGIT (get_or s at 0) ≡ false → rest s None ≡ digits1 (drop at s)
-  unfolding digits1
-  digits1_other h y = rw (drop_here s at h, y)
-
-  pub digits1_over : length s ≤ at → rest s None ≡ digits1 (drop at s)
-  unfolding digits1
-  digits1_over h = rw (drop_over s at h)
-
-  -- an optional part, which may be one of two
-  pub optional_minus : (found : Option ℕ) → rest s found ≡ one (λ c. eqb c 0x2D) (drop at s) → drop (unwrap_or found at) s ≡ optional minus (drop at s)
-  unfolding minus
-  optional_minus None f = rw (← f)
-  optional_minus (Some past) f = rw (← f)
-
-  pub optional_sign : (a b : Option ℕ) → rest s a ≡ one (λ c. eqb c 0x2D) (drop at s) → rest s b ≡ one (λ c. eqb c 0x2B) (drop at s)
-      → drop (unwrap_or (option_or a b) at) s ≡ optional sign (drop at s)
-  unfolding sign minus plus
-  optional_sign None None f g = rw (← f, ← g)
-  optional_sign None (Some past) f g = rw (← f, ← g)
-  optional_sign (Some past) b f g = rw (← f)
 
 not_zero : (x : ℕ) → eqb x 0x30 ≡ false → (x ∈ (0x31 to 0x39)) ≡ DIGIT x
 not_zero x n =
@@ -81,72 +140,58 @@ no_zero (c ∷ t) n = by_test (eqb c 0x30) refl
     by_test true q = let z : ◌≡◌ {A = Option (List ℕ)} None (Some t) = n ∙ rw q in cc
     by_test false q = rw (q, not_zero c q)
 
--- either of two octets
-either_octet : (p q : ℕ → Bool) (t : List ℕ) → or_else (one p t) (one q t) ≡ one (λ c. p c || q c) t
-either_octet p q [] = refl
-either_octet p q (c ∷ t) = by_test (p c) refl
-  where
-    by_test : (b : Bool) → p c ≡ b → or_else (one p (c ∷ t)) (one q (c ∷ t)) ≡ one (λ d. p d || q d) (c ∷ t)
-    by_test true e = rw e
-    by_test false e = rw e
-
-module _ (s : List ℕ) (at : ℕ) where
-  pub int_found : (a found : Option ℕ) {P : Type 0} → rest s a ≡ one (λ c. eqb c 0x30) (drop at s) → MatchOption a P (λ past. found ≡ Some past)
-      → (P → rest s found ≡ digits1 (drop at s)) → rest s found ≡ int (drop at s)
+module _ (s : List ℕ) where
+  pub int_found : (a found : Option (Bor (List ℕ))) {P : Type 0} → Strips s 0x30 a → MatchOption a P (λ past. found ≡ Some past)
+      → (P → option_copied found ≡ digits1 s) → option_copied found ≡ int s
   unfolding int zero
-  int_found None found f m h = h m ∙ no_zero (drop at s) f
-  int_found (Some past) found f m h = rw (m, ← f)
+  int_found None found f m h = h m ∙ no_zero s (stripped s 0x30 None f)
+  int_found (Some past) found f m h = rw (m, ← (stripped s 0x30 (Some past) f))
 
-  module _ (point : Option ℕ) (f : rest s point ≡ one (λ c. eqb c 0x2E) (drop at s)) where
-    pub frac_there : (found : Option ℕ) (past : ℕ) → point ≡ Some past → rest s found ≡ digits1 (drop past s) → rest s found ≡ frac (drop at s)
+  module _ (point : Option (Bor (List ℕ))) (f : Strips s 0x2E point) where
+    pub frac_there : (found : Option (Bor (List ℕ))) (past : Bor (List ℕ)) → point ≡ Some past → option_copied found ≡ digits1 past.now → option_copied found ≡ frac s
     unfolding frac decimal_point
-    frac_there found past there g = g ∙ rw (← f, there)
+    frac_there found past there g = g ∙ rw (← (stripped s 0x2E point f), there)
 
-    pub frac_absent : point ≡ None → rest s None ≡ frac (drop at s)
+    pub frac_absent : point ≡ None → None ≡ frac s
     unfolding frac decimal_point
-    frac_absent missing = rw (← f, missing)
+    frac_absent missing = rw (← (stripped s 0x2E point f), missing)
 
-  module _ (a b : Option ℕ) (f : rest s a ≡ one (λ c. eqb c 0x65) (drop at s)) (g : rest s b ≡ one (λ c. eqb c 0x45) (drop at s)) where
-    e_found : rest s (option_or a b) ≡ e (drop at s)
+  module _ (a b r : Option (Bor (List ℕ))) (f : Strips s 0x65 a) (g : Strips s 0x45 b) (j : r ≡ option_or a b) where
+    e_found : option_copied r ≡ e s
     unfolding e
-    e_found = either a f ∙ either_octet (λ c. eqb c 0x65) (λ c. eqb c 0x45) (drop at s)
-      where
-        either : (x : Option ℕ) → rest s x ≡ one (λ c. eqb c 0x65) (drop at s)
-            → rest s (option_or x b) ≡ or_else (one (λ c. eqb c 0x65) (drop at s)) (one (λ c. eqb c 0x45) (drop at s))
-        either None h = rw (← h) g
-        either (Some past) h = rw (← h)
+    e_found =
+        ap option_copied j ∙ either a b ∙ rw (stripped s 0x65 a f, stripped s 0x45 b g) (either_octet (λ c. eqb c 0x65) (λ c. eqb c 0x45) s)
 
-    pub exp_there : (found : Option ℕ) (past next : ℕ) → option_or a b ≡ Some past → drop next s ≡ optional sign (drop past s)
-        → rest s found ≡ digits1 (drop next s) → rest s found ≡ exp (drop at s)
+    pub exp_there : (found : Option (Bor (List ℕ))) (past next : Bor (List ℕ)) → r ≡ Some past → next.now ≡ optional sign past.now
+        → option_copied found ≡ digits1 next.now → option_copied found ≡ exp s
     unfolding exp
     exp_there found past next there p h = h ∙ rw (p, ← e_found, there)
 
-    pub exp_absent : option_or a b ≡ None → rest s None ≡ exp (drop at s)
+    pub exp_absent : r ≡ None → None ≡ exp s
     unfolding exp
     exp_absent missing = rw (← e_found, missing)
 
 -- ---- the whole number
 
-end_test : (s : List ℕ) (at : ℕ) → leb (length s) at ≡ is_end (drop at s)
-end_test s at =
-    ⊎_elim (λ p. le-leb (length s) at p ∙ sym (rw (drop_over s at p))) (λ p. lt-leb (length s) at p ∙ sym (rw (drop_here s at p)))
-    (le_or_lt (length s) at)
+end_test : (s : List ℕ) → eqb (length s) 0 ≡ is_end s
+end_test [] = refl
+end_test (c ∷ s) = eqb-suc-zero (length s)
 
-module _ (s : List ℕ) (at : ℕ) (fraction : Option ℕ) (f : rest s fraction ≡ frac (drop at s)) where
-  pub frac_and_more : (exponent : Option ℕ) (past : ℕ) → fraction ≡ Some past → rest s exponent ≡ exp (drop past s)
-      → leb (length s) (unwrap_or exponent past) ≡ frac_or_exp (drop at s)
+module _ (s : List ℕ) (fraction : Option (Bor (List ℕ))) (f : option_copied fraction ≡ frac s) where
+  pub frac_and_more : (exponent : Option (Bor (List ℕ))) (past u : Bor (List ℕ)) (r : Bool) → fraction ≡ Some past → option_copied exponent ≡ exp past.now
+      → u ≡ unwrap_or exponent past → r ≡ eqb (length u.now) 0 → r ≡ frac_or_exp s
   unfolding frac_or_exp
-  frac_and_more None past there x = sym (rw (← f, there, ← x) (and-true (is_end (drop past s)) ∙ sym (end_test s past)))
-  frac_and_more (Some end) past there x = sym (rw (← f, there, ← x) (and-true (is_end (drop end s)) ∙ sym (end_test s end)))
+  frac_and_more None past u r there x w t = t ∙ rw w (end_test past.now ∙ sym (rw (← f, there, ← x) (and-true (is_end past.now))))
+  frac_and_more (Some end) past u r there x w t = t ∙ rw w (end_test end.now ∙ sym (rw (← f, there, ← x) (and-true (is_end end.now))))
 
-  pub exp_alone : (exponent : Option ℕ) (r : Bool) {P : ℕ → Type 0} → fraction ≡ None → rest s exponent ≡ exp (drop at s)
-      → MatchOption exponent (r ≡ false) P → ((end : ℕ) → P end → r ≡ leb (length s) end) → r ≡ frac_or_exp (drop at s)
+  pub exp_alone : (exponent : Option (Bor (List ℕ))) (r : Bool) {P : Bor (List ℕ) → Type 0} → fraction ≡ None → option_copied exponent ≡ exp s
+      → MatchOption exponent (r ≡ false) P → ((end : Bor (List ℕ)) → P end → r ≡ eqb (length end.now) 0) → r ≡ frac_or_exp s
   unfolding frac_or_exp
-  exp_alone None r missing x m h = m ∙ sym (rw (← f, missing, ← x) (and-false (is_end (drop at s))))
-  exp_alone (Some end) r missing x m h = h end m ∙ sym (rw (← f, missing, ← x) (and-true (is_end (drop end s)) ∙ sym (end_test s end)))
+  exp_alone None r missing x m h = m ∙ sym (rw (← f, missing, ← x) (and-false (is_end s)))
+  exp_alone (Some end) r missing x m h = h end m ∙ end_test end.now ∙ sym (rw (← f, missing, ← x) (and-true (is_end end.now)))
 
-pub float_found : (s : List ℕ) (from : ℕ) (whole : Option ℕ) (r : Bool) {P : ℕ → Type 0} → drop from s ≡ optional minus (drop 0 s)
-    → rest s whole ≡ int (drop from s) → MatchOption whole (r ≡ false) P → ((past : ℕ) → P past → r ≡ frac_or_exp (drop past s)) → r ≡ is_float s
+pub float_found : (s : List ℕ) (from : Bor (List ℕ)) (whole : Option (Bor (List ℕ))) (r : Bool) {P : Bor (List ℕ) → Type 0} → from.now ≡ optional minus s
+    → option_copied whole ≡ int from.now → MatchOption whole (r ≡ false) P → ((past : Bor (List ℕ)) → P past → r ≡ frac_or_exp past.now) → r ≡ is_float s
 unfolding is_float
 float_found s from None r m w k h = k ∙ rw (← m, ← w)
 float_found s from (Some past) r m w k h = h past k ∙ sym (rw (← m, ← w))

@@ -4,4 +4,4 @@ use Rattle.text.proofs.numbers.Parts.{int_found}
 use Rattle.text.proofs.numbers.find_int.Goals as goal
 
 pub returns : goal.returns
-returns c = int_found c.args.s.now c.args.at c.find_byte.result c.or_else.result c.find_byte.ensures c.or_else.ensures (λ h. search rules)
+returns c = int_found c.args.s.now c.strip_prefix.result c.or_else.result c.strip_prefix.ensures.cases c.or_else.ensures (λ h. search rules)

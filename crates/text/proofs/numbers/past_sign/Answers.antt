@@ -3,5 +3,6 @@ use Rattle.text.proofs.numbers.Parts.{optional_sign}
 use Rattle.text.proofs.numbers.past_sign.Goals as goal
 
 pub returns : goal.returns
-returns c = rw (c.unwrap_or.ensures, c.or.ensures)
-    (optional_sign c.args.s.now c.args.at c.find_byte.result c.find_byte-2.result c.find_byte.ensures c.find_byte-2.ensures)
+returns c =
+    optional_sign c.args.s c.strip_prefix.result c.strip_prefix-2.result c.or.result c.unwrap_or.result c.strip_prefix.ensures.cases
+    c.strip_prefix-2.ensures.cases c.or.ensures c.unwrap_or.ensures
