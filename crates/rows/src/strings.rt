@@ -1,5 +1,5 @@
 // Strings: parts of the byte pool.
-ghost use Rattle.std.specs.Prelude.{◌≡◌, ◌≤◌, ◌<◌, length};
+ghost use Rattle.std.specs.Prelude.{◌≡◌};
 ghost use Rattle.rows.specs.Strings.{text_of, same};
 
 // Where a string stands in the pool.
@@ -10,7 +10,6 @@ pub struct Text {
 }
 
 // The string's bytes; those that the pool has, where it ends before them.
-
 pub fn text_of(pool: &[u8], text: Text) -> &[u8]
     ensures { result.now ≡ text_of pool.now text }
 {

@@ -1,5 +1,5 @@
 // The tokens of JSON (RFC 8259): literal names, integers and strings.
-ghost use Rattle.std.specs.Prelude.{◌≡◌, ◌+◌, ◌≤◌, ◌<◌, length, take, drop, [], ◌∷◌};
+ghost use Rattle.std.specs.Prelude.{◌≡◌, ◌+◌, ◌≤◌, ◌<◌, length, ◌∷◌};
 ghost use Rattle.writing.specs.Wrote.{Writes};
 ghost use Rattle.tokens.specs.Literal.{null_name, true_name, false_name};
 ghost use Rattle.tokens.specs.Decimal.{decimal, four_digits, eight_digits};
