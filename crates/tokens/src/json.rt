@@ -195,6 +195,7 @@ fn put_each_escaped(text: &mut [u8], at: usize, s: &[u8]) -> usize
 }
 
 // Whether every byte stands for itself. No byte leaves the loop early, so the compiler makes it take many bytes in a step.
+#[tactic(auto, using(crate::proofs::EscapeLaws::plain_more), unfolding(crate::specs::Escape::all_plain))]
 fn are_plain(s: &[u8]) -> bool
     ensures { result ≡ all_plain s.now }
 {
