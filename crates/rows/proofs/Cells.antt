@@ -1,8 +1,8 @@
 -- Where a cell stands, and the text behind a start and a length. Assumes nothing.
 use mathlib.Core.Path.{◌≡◌, sym, ◌∙◌}
 use mathlib.Core.List.{List}
-use Prim.Native.Nat.{ℕ, suc, ◌/◌, ◌+◌, ◌*◌, ◌-◌, ◌≤◌, ◌<◌, ◌^◌}
-use native.Mathlib.Nat.{le_trans, mul-le-mul_right, div-mul-le_self, suc-mul, mul-le-mul, le_of_lt}
+use Prim.Native.Nat.{ℕ, suc, ◌/◌, ◌+◌, ◌*◌, ◌-◌, ◌≤◌, ◌<◌}
+use native.Mathlib.Nat.{le_trans, mul-le-mul_right, div-mul-le_self, suc-mul, le_of_lt}
 use native.Mathlib.Omega.{arith}
 use lib.ListN.{length, take, drop, length-drop, drop_of_length-le}
 use lib.Seq.{take_all, take-nil}

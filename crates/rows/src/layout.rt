@@ -26,8 +26,7 @@ pub fn cell(t: &[u32], width: usize, row: usize, column: usize) -> u32
     requires { (row < 2 ^ 40) × (width ≤ 16) × (column < 16) }
     ensures { result ≡ Rows·cell t.now width row column }
 {
-    let at = row * width + column;
-    if at < t.len() { t[at] } else { 0 }
+    t.get(row * width + column).copied().unwrap_or(0)
 }
 
 // The same, where the row is there.

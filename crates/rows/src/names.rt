@@ -1,5 +1,5 @@
 // The table of names.
-ghost use Rattle.std.specs.Prelude.{◌≡◌, ◌<◌};
+ghost use Rattle.std.specs.Prelude.{◌≡◌};
 ghost use Rattle.rows.specs.Names.{name_at, name_text};
 
 use crate::columns::{NAME_LENGTH, NAME_START};

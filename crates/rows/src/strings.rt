@@ -1,5 +1,5 @@
 // Strings: parts of the byte pool.
-ghost use Rattle.std.specs.Prelude.{◌≡◌, ◌≤◌, ◌<◌, length};
+ghost use Rattle.std.specs.Prelude.{◌≡◌};
 ghost use Rattle.rows.specs.Strings.{text_of, same};
 
 // Where a string stands in the pool.
@@ -10,21 +10,11 @@ pub struct Text {
 }
 
 // The string's bytes; those that the pool has, where it ends before them.
-#[tactic(auto, using(crate::proofs::Cells::text_cut, crate::proofs::Cells::text_none))]
 pub fn text_of(pool: &[u8], text: Text) -> &[u8]
     ensures { result.now ≡ text_of pool.now text }
 {
-    let start = text.start as usize;
-    let len = text.len as usize;
-    if start <= pool.len() {
-        if len <= pool.len() - start {
-            &pool[start..start + len]
-        } else {
-            &pool[start..]
-        }
-    } else {
-        &pool[..0]
-    }
+    let behind = pool.get(text.start as usize..).unwrap_or(&[]);
+    behind.get(..text.len as usize).unwrap_or(behind)
 }
 
 // The same bytes.

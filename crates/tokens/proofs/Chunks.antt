@@ -1,6 +1,6 @@
 -- A string that is written block by block: where the blocks stand in it, and what is left behind the last. Assumes nothing.
-use mathlib.Core.Path.{◌≡◌, refl, sym, ap, ◌∙◌}
-use mathlib.Core.List.{List, [], ◌∷◌, ◌++◌}
+use mathlib.Core.Path.{◌≡◌, sym, ap, ◌∙◌}
+use mathlib.Core.List.{List, ◌++◌}
 use Prim.Native.Nat.{ℕ, zero, suc, ◌+◌, ◌*◌, ◌-◌, ◌/◌, ◌≤◌, ◌<◌}
 use native.Mathlib.Nat.{le_trans, mul-le-mul_right, div-mul-le_self, suc-mul}
 use native.Mathlib.Numerals.{add-one}

@@ -102,10 +102,3 @@ all_plain_lapped k s h g =
 module _ (block : List ℕ) (plain : Bool) (i : ℕ) (inv : plain ≡ all_plain (take i block)) where
   pub plain_more : (r : Bool) → r ≡ is_plain (get_or block i 0) → i < length block → (plain && r) ≡ all_plain (take (i + 1) block)
   plain_more r e h = rw (add-one, take-suc block i 0, all_plain_snoc, inv, e)
-
-  pub plain_all : length block ≤ i → plain ≡ all_plain block
-  plain_all h = inv ∙ rw (take_all i block h)
-
-pub plain_none : (block : List ℕ) → true ≡ all_plain (take 0 block)
-unfolding all_plain
-plain_none block = refl

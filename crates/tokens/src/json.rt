@@ -1,5 +1,5 @@
 // The tokens of JSON (RFC 8259): literal names, integers and strings.
-ghost use Rattle.std.specs.Prelude.{◌≡◌, ◌+◌, ◌≤◌, ◌<◌, length, take, drop, [], ◌∷◌};
+ghost use Rattle.std.specs.Prelude.{◌≡◌, ◌+◌, ◌≤◌, ◌<◌, length, ◌∷◌};
 ghost use Rattle.writing.specs.Wrote.{Writes};
 ghost use Rattle.tokens.specs.Literal.{null_name, true_name, false_name};
 ghost use Rattle.tokens.specs.Decimal.{decimal, four_digits, eight_digits};
@@ -30,10 +30,10 @@ fn put_four_digits(text: &mut [u8], at: usize, n: u32) -> usize
     requires { n < 10000 }
     ensures { Writes text.old text.new at result (four_digits n) }
 {
-    let thousands = 48 + (n / 1000) as u8;
-    let hundreds = 48 + (n / 100 % 10) as u8;
-    let tens = 48 + (n / 10 % 10) as u8;
-    let ones = 48 + (n % 10) as u8;
+    let thousands = b'0' + (n / 1000) as u8;
+    let hundreds = b'0' + (n / 100 % 10) as u8;
+    let tens = b'0' + (n / 10 % 10) as u8;
+    let ones = b'0' + (n % 10) as u8;
     put_four(text, at, thousands, hundreds, tens, ones)
 }
 
@@ -52,10 +52,10 @@ fn put_two(text: &mut [u8], at: usize, n: u32) -> usize
     ensures { Writes text.old text.new at result (decimal n) }
 {
     if n < 10 {
-        return put(text, at, 48 + n as u8);
+        return put(text, at, b'0' + n as u8);
     }
-    let ones = put(text, at, 48 + (n / 10) as u8);
-    put(text, ones, 48 + (n % 10) as u8)
+    let ones = put(text, at, b'0' + (n / 10) as u8);
+    put(text, ones, b'0' + (n % 10) as u8)
 }
 
 // A number of at most four digits.
@@ -68,7 +68,7 @@ fn put_short(text: &mut [u8], at: usize, n: u32) -> usize
     }
     if n < 1000 {
         let ones = put_two(text, at, n / 10);
-        return put(text, ones, 48 + (n % 10) as u8);
+        return put(text, ones, b'0' + (n % 10) as u8);
     }
     put_four_digits(text, at, n)
 }
@@ -101,7 +101,8 @@ fn put_long(text: &mut [u8], at: usize, n: u64) -> usize
     put_eight_digits(text, next, low)
 }
 
-// No loop and no call of itself: a number has at most twenty digits, and from the ninth on they come eight at a time.
+// No loop and no call of itself: a number has at most twenty digits, and from the ninth on they come eight at a time. No formatter of the
+// library stands here, since `Writes` says what is in the buffer also where the digits do not fit.
 pub fn put_natural(text: &mut [u8], at: usize, n: u64) -> usize
     ensures { Writes text.old text.new at result (decimal n) }
 {
@@ -115,7 +116,7 @@ pub fn put_natural(text: &mut [u8], at: usize, n: u64) -> usize
 pub fn put_negative(text: &mut [u8], at: usize, magnitude: u64) -> usize
     ensures { Writes text.old text.new at result (45 ∷ decimal magnitude) }
 {
-    let next = put(text, at, 45);
+    let next = put(text, at, b'-');
     put_natural(text, next, magnitude)
 }
 
@@ -136,14 +137,15 @@ fn escape_letter(b: u8) -> Option<u8>
     }
 }
 
+#[tactic(auto, unfolding(crate::specs::Escape::hex_digit))]
 fn hex_digit(n: u8) -> u8
     requires { n < 16 }
     ensures { result ≡ hex_digit n }
 {
     if n < 10 {
-        return 48 + n;
+        return b'0' + n;
     }
-    87 + n
+    b'a' - 10 + n
 }
 
 // The six characters for a byte: `\u00` and two digits.
@@ -158,10 +160,11 @@ fn put_code_point_escape(text: &mut [u8], at: usize, b: u8) -> usize
 }
 
 // Whether a byte stands for itself in a string.
+#[tactic(auto, unfolding(crate::specs::Escape::is_plain))]
 fn is_plain(b: u8) -> bool
     ensures { result ≡ is_plain b }
 {
-    (32 <= b) & ((b != 34) & (b != 92))
+    (32 <= b) & ((b != b'"') & (b != b'\\'))
 }
 
 // One byte of a string, escaped where JSON asks for it.
@@ -192,6 +195,7 @@ fn put_each_escaped(text: &mut [u8], at: usize, s: &[u8]) -> usize
 }
 
 // Whether every byte stands for itself. No byte leaves the loop early, so the compiler makes it take many bytes in a step.
+#[tactic(auto, using(crate::proofs::EscapeLaws::plain_more), unfolding(crate::specs::Escape::all_plain))]
 fn are_plain(s: &[u8]) -> bool
     ensures { result ≡ all_plain s.now }
 {
@@ -262,7 +266,7 @@ fn put_escaped_all(text: &mut [u8], at: usize, s: &[u8]) -> usize
 pub fn put_string(text: &mut [u8], at: usize, s: &[u8]) -> usize
     ensures { Writes text.old text.new at result (quoted s.now) }
 {
-    let inside = put(text, at, 34);
+    let inside = put(text, at, b'"');
     let end = put_escaped_all(text, inside, s);
-    put(text, end, 34)
+    put(text, end, b'"')
 }
