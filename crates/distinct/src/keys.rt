@@ -8,7 +8,7 @@ ghost use Rattle.rules.specs.Json.{object_rows, other_key, node_keys_differ};
 ghost use Rattle.distinct.specs.Differ.{Since};
 ghost use Rattle.distinct.specs.Plain.{is_plain};
 
-use crate::texts::note_texts;
+use crate::texts::Texts;
 use rows::columns::{NODE_KEY_START, NODE_KIND, NODE_ONE, NODE_TWO};
 use rows::json::NODE_WIDTH;
 use rows::layout::{Range, cell, row_count};
@@ -88,21 +88,9 @@ fn noted_keys_differ(pool: &[u8], nodes: &[u32], known: usize) -> bool
     requires { known ≤ 4096 }
     ensures { result ≡ all (node_keys_differ pool.now nodes.now) (rows_of nodes.now node_width) }
 {
-    let mut heads = [0u16; 2048];
-    let mut next = [0u16; 4096];
-    let mut hashes = [0u16; 4096];
+    let texts = Texts::<NODE_WIDTH, NODE_KEY_START>::new(pool, nodes);
     let mut since = [0u16; 4097];
-    note_texts(
-        pool,
-        nodes,
-        NODE_WIDTH,
-        NODE_KEY_START,
-        &mut heads,
-        &mut next,
-        &mut hashes,
-        &mut since,
-        known,
-    );
+    texts.note_since::<4096>(known, &mut since);
     all_keys_differ_since(pool, nodes, &since, known)
 }
 
