@@ -4,10 +4,11 @@ use mathlib.Core.Bool.{true}
 use Prim.Native.Nat.{◌-◌, ◌≤◌}
 use Rattle.rows.specs.Rows.{all}
 use Rattle.rules.specs.Document.{fragment_owns_alone}
-use Rattle.distinct.specs.Marks.{Marked, free_of_fragments}
+use Rattle.rules.specs.Marks.{Marked}
+use Rattle.distinct.specs.Marks.{free_of_fragments}
 use Rattle.distinct.proofs.owners.fragments_claim.Given as goal
 
 abbrev pub invariant-loop-row : goal.invariant-loop-row
 invariant-loop-row l = (l.row ≤ l.rows)
     × (all (fragment_owns_alone l.selections l.fragments) l.row ≡ true)
-    × Marked (free_of_fragments l.selections l.fragments l.row) l.marks
+    × Marked 4096 (free_of_fragments l.selections l.fragments l.row) l.marks

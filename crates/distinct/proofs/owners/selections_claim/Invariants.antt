@@ -4,10 +4,11 @@ use mathlib.Core.Bool.{true}
 use Prim.Native.Nat.{◌-◌, ◌≤◌}
 use Rattle.rows.specs.Rows.{all}
 use Rattle.rules.specs.Document.{selection_owns_alone}
-use Rattle.distinct.specs.Marks.{Marked, free_of_selections}
+use Rattle.rules.specs.Marks.{Marked}
+use Rattle.distinct.specs.Marks.{free_of_selections}
 use Rattle.distinct.proofs.owners.selections_claim.Given as goal
 
 abbrev pub invariant-loop-row : goal.invariant-loop-row
 invariant-loop-row l = (l.row ≤ l.rows)
     × (all (selection_owns_alone l.selections) l.row ≡ true)
-    × Marked (free_of_selections l.selections l.row) l.marks
+    × Marked 4096 (free_of_selections l.selections l.row) l.marks
