@@ -12,6 +12,7 @@ use crate::texts::Texts;
 use rows::columns::{NODE_KEY_START, NODE_KIND, NODE_ONE, NODE_TWO};
 use rows::json::NODE_WIDTH;
 use rows::layout::{Range, cell, row_count};
+use rows::limits::MOST_NODES;
 use rules::keys::node_keys_differ;
 
 // The children of an object, and no rows of any other node, whose further columns need no look.
@@ -89,8 +90,8 @@ fn noted_keys_differ(pool: &[u8], nodes: &[u32], known: usize) -> bool
     ensures { result ≡ all (node_keys_differ pool.now nodes.now) (rows_of nodes.now node_width) }
 {
     let texts = Texts::<NODE_WIDTH, NODE_KEY_START>::new(pool, nodes);
-    let mut since = [0u16; 4097];
-    texts.note_since::<4096>(known, &mut since);
+    let mut since = [0u16; MOST_NODES + 1];
+    texts.note_since::<MOST_NODES>(known, &mut since);
     all_keys_differ_since(pool, nodes, &since, known)
 }
 

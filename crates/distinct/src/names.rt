@@ -7,6 +7,7 @@ ghost use Rattle.rules.specs.Names.{name_new};
 use crate::texts::Texts;
 use rows::columns::NAME_START;
 use rows::layout::row_count;
+use rows::limits::MOST_NAMES;
 use rows::names::NAME_WIDTH;
 
 pub fn all_names_differ(pool: &[u8], names: &[u32]) -> bool
@@ -15,7 +16,7 @@ pub fn all_names_differ(pool: &[u8], names: &[u32]) -> bool
 {
     let rows = row_count(names, NAME_WIDTH) as usize;
     let texts = Texts::<NAME_WIDTH, NAME_START>::new(pool, names);
-    let mut since = [0u16; 513];
-    texts.note_since::<512>(rows, &mut since);
+    let mut since = [0u16; MOST_NAMES + 1];
+    texts.note_since::<MOST_NAMES>(rows, &mut since);
     since[rows] == 0
 }
