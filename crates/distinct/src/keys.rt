@@ -13,6 +13,7 @@ use rows::columns::{NODE_KEY_START, NODE_KIND, NODE_ONE, NODE_TWO};
 use rows::json::NODE_WIDTH;
 use rows::layout::{Range, cell, row_count};
 use rows::limits::MOST_NODES;
+use rules::json::OBJECT_NODE;
 use rules::keys::node_keys_differ;
 
 // The children of an object, and no rows of any other node, whose further columns need no look.
@@ -20,7 +21,7 @@ fn object_rows_at(nodes: &[u32], row: u32) -> Range
     ensures { result ≡ object_rows (node_at nodes.now row) }
 {
     let at = row as usize;
-    if cell(nodes, NODE_WIDTH, at, NODE_KIND) != 8 {
+    if cell(nodes, NODE_WIDTH, at, NODE_KIND) != OBJECT_NODE {
         return Range { first: 0, count: 0 };
     }
     Range {

@@ -30,6 +30,7 @@ use rules::schema::{
     argument_row, arguments_differ, field_row, fields_differ, member_row, root_is_object,
     type_name_is_new, type_parts, type_ref_row, type_row,
 };
+use rules::strings::Pool;
 use tables::rule::{DocumentRule, Rule, SchemaRule, SizeRule, ValueRule};
 
 fn size_holds(
@@ -261,13 +262,13 @@ fn value_holds(
 ) -> bool
     ensures { result ≡ (value_says rule (value_tables pool.now names.now nodes.now literals.now variables.now answers.now)).holds row }
 {
+    let unread = Pool::new(pool);
     match rule {
-        ValueRule::NodeRow => node_row(pool, false, row_count(nodes, NODE_WIDTH), nodes, row),
-        ValueRule::NodeKey => node_key_row(pool, false, nodes, row),
+        ValueRule::NodeRow => node_row(&unread, row_count(nodes, NODE_WIDTH), nodes, row),
+        ValueRule::NodeKey => node_key_row(&unread, nodes, row),
         ValueRule::NodeKeysDiffer => node_keys_differ(pool, nodes, row),
         ValueRule::LiteralRow => literal_row(
-            pool,
-            false,
+            &unread,
             row_count(names, NAME_WIDTH),
             row_count(literals, LITERAL_WIDTH),
             literals,
