@@ -51,13 +51,6 @@ module _ (runs : List ℕ) where
   either true x y e f = e
   either false x y e f = f
 
-  pub no_parts : (kind a b : ℕ) → (kind ≡ 7 → ⊥) → (kind ≡ 8 → ⊥) → (kind ≡ 10 → ⊥) → true ≡ closed_in runs (literal_of kind a b)
-  no_parts kind a b l o v =
-      rw (ne_eqb kind 7 l, ne_eqb kind 8 o, ne_eqb kind 10 v)
-      (sym
-      (either (eqb kind 0) _ _ refl (either (eqb kind 1) _ _ refl (either (eqb kind 2) _ _ refl (either (eqb kind 3) _ _ refl
-      (either (eqb kind 4) _ _ refl (either (eqb kind 5) _ _ refl (either (eqb kind 6) _ _ refl (either (eqb kind 9) _ _ refl refl)))))))))
-
 module _ (literals : List ℕ) (nested : Nested literals) where
   abbrev count : ℕ
   count = rows_of literals literal_width
