@@ -14,7 +14,7 @@ use Rattle.rows.specs.Layout.{field_width, argument_width, literal_width}
 use Rattle.rows.specs.Limits.{most_literals}
 use Rattle.rows.specs.Rows.{all, rows_of}
 use Rattle.rows.specs.Schema.{field_at, argument_at}
-use Rattle.rows.specs.Json.{literal_of, literal_at}
+use Rattle.rows.specs.Json.{literal_at}
 use Rattle.rules.specs.Rows.{row_or_none}
 use Rattle.tables.specs.Defaults.{each_of, closed_but, closed_to, closed, default_closed, field_default, argument_default, defaults_closed}
 use Rattle.tables.specs.Marking.{run, in_run, closed_in, Marked, parts_later, Nested, Defaulted, default_unmarked, row_unmarked}

@@ -1,28 +1,20 @@
 -- Rows that have no parts to compare, by their words. Assumes nothing.
-use mathlib.Core.Path.{◌≡◌, refl, sym, ap}
+use mathlib.Core.Path.{◌≡◌, refl, sym}
 use mathlib.Core.Bool.{Bool, true, false, not, ◌||◌, cond}
 use mathlib.Core.List.{List}
-use Prim.Native.Nat.{ℕ, zero, suc, ◌+◌, ◌<◌}
+use Prim.Native.Nat.{ℕ, ◌+◌, ◌<◌}
 use native.Mathlib.Omega.{arith}
 use borrow.Author.Tests.{eqb-true, eqb-false, ne_eqb, ltb-true}
 use lib.Dec.{ltb, eqb}
-use Rattle.rows.specs.Layout.{node_width, answer_width}
-use Rattle.rows.specs.Rows.{cell, option_of}
-use Rattle.rows.specs.Json.{node_of, node_at, literal_of}
+use Rattle.rows.specs.Layout.{answer_width}
+use Rattle.rows.specs.Rows.{cell}
 use Rattle.rows.specs.Answers.{answer_at, answer_of}
 use Rattle.rules.specs.Rows.{is_new, distinct, other}
-use Rattle.rules.specs.Document.{given_of, selected_of}
-use Rattle.rules.specs.Json.{node_lawful, literal_parts}
 use Rattle.rules.specs.Answers.{answer_parts, answer_names_differ}
-use Rattle.distinct.specs.Plain.{is_plain}
 use Rattle.tables.specs.ByTable.{plain_answer}
 use Rattle.rows.specs.declared.layout.Range.{Range}
-use Rattle.rows.specs.declared.document.FieldSelection.{FieldSelection}
-use Rattle.rows.specs.declared.document.Selected.TheVariants as selected
-use Rattle.rows.specs.declared.json.Literal.TheVariants as literal
 use Rattle.rows.specs.declared.answers.Answer.TheVariants as answer
 use Rattle.rows.proofs.Every.{all_none, all_each, or_right}
-use Rattle.distinct.proofs.Plain.{no_object}
 
 -- only an object answer has names
 pub no_names : (answers : List ℕ) (kind a b c : ℕ) → (kind ≡ 4 → ⊥) → true ≡ answer_parts answers (answer_of kind a b c)

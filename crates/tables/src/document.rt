@@ -18,9 +18,7 @@ use rows::columns::{
 use rows::document::{FRAGMENT_WIDTH, GIVEN_WIDTH, SELECTION_WIDTH, SET_WIDTH, set_at};
 use rows::layout::{Range, row_count, word};
 use rows::limits::MOST_SELECTIONS;
-use rules::document::{
-    FIELD_KIND, child_is_larger, fragment_row, selection_is_lawful, set_row,
-};
+use rules::document::{FIELD_KIND, child_is_larger, fragment_row, selection_is_lawful, set_row};
 
 #[tactic(auto, unfolding(rows::specs::Document::given_at))]
 fn given_holds(names: u32, literals: u32, given: &[u32], row: u32) -> bool

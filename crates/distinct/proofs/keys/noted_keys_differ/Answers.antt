@@ -1,10 +1,7 @@
 -- The notes answer for every object. Assumes nothing.
-use mathlib.Core.Path.{refl}
 use native.Mathlib.Omega.{arith}
 use Rattle.rows.specs.Json.{node_key}
 use Rattle.distinct.specs.Texts.{text_at}
-use Rattle.distinct.proofs.Kept.{kept_none}
-use borrow.Author.Rules.{rules}
 use Rattle.distinct.proofs.keys.noted_keys_differ.Goals as goal
 
 pub all_keys_differ_since-requires : goal.all_keys_differ_since-requires

@@ -1,12 +1,9 @@
 -- The last note says of all rows whether their names differ. Assumes nothing.
 use mathlib.Core.Path.{refl, ◌∙◌}
-use native.Mathlib.Omega.{arith}
 use Rattle.rows.specs.Names.{name_at}
 use Rattle.rules.specs.Names.{other_name, name_new}
 use Rattle.distinct.specs.Texts.{text_at}
 use Rattle.distinct.proofs.Differ.{since_all, differ_first}
-use Rattle.distinct.proofs.Kept.{kept_none}
-use borrow.Author.Rules.{rules}
 use Rattle.distinct.proofs.names.all_names_differ.Goals as goal
 
 pub returns : goal.returns

@@ -1,5 +1,4 @@
 -- The marks that the selections leave serve the fragments. Assumes nothing.
-use borrow.Author.Rules.{rules}
 use Rattle.distinct.proofs.Marked.{selections_first, fragments_first}
 use Rattle.distinct.proofs.owners.owners_differ.Goals as goal
 

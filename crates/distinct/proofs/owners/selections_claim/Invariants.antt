@@ -1,7 +1,7 @@
 -- Each row passed owns its set alone, and the marks follow; one that does not ends the search. Assumes nothing.
 use mathlib.Core.Path.{◌≡◌}
 use mathlib.Core.Bool.{true}
-use Prim.Native.Nat.{◌-◌, ◌≤◌}
+use Prim.Native.Nat.{◌≤◌}
 use Rattle.rows.specs.Rows.{all}
 use Rattle.rules.specs.Document.{selection_owns_alone}
 use Rattle.rules.specs.Marks.{Marked}

@@ -1,7 +1,7 @@
 -- Each row passed is new, and its word is marked; a row that is not new ends the search. Assumes nothing.
 use mathlib.Core.Path.{◌≡◌}
 use mathlib.Core.Bool.{true}
-use Prim.Native.Nat.{◌≤◌, ◌-◌}
+use Prim.Native.Nat.{◌≤◌}
 use Rattle.rows.specs.Rows.{all}
 use Rattle.rules.specs.Rows.{is_new}
 use Rattle.rules.specs.Marks.{Marked, unmet}

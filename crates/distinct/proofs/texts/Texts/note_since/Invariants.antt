@@ -1,6 +1,6 @@
 -- What is kept follows the rows. Assumes nothing.
 use mathlib.Core.Path.{◌≡◌}
-use Prim.Native.Nat.{◌+◌, ◌≤◌}
+use Prim.Native.Nat.{◌≤◌}
 use lib.ListN.{length}
 use Rattle.distinct.specs.Texts.{texts_of, Kept}
 use Rattle.distinct.proofs.texts.Texts.note_since.Given as goal
