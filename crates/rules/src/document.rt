@@ -15,6 +15,9 @@ use rows::document::{
 };
 use rows::layout::{Range, cell, row_count};
 
+// The kind of a selection that is a field, which searches ask for before they read more of a row.
+pub const FIELD_KIND: u32 = 0;
+
 pub fn set_row(selections: u32, sets: &[u32], row: u32) -> bool
     ensures { result ≡ set_row selections sets.now row }
 {

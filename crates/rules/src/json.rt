@@ -16,6 +16,13 @@ use rows::json::{
 use rows::layout::{Range, cell};
 use rows::strings::Text;
 
+// Kinds that searches ask for before they read more of a row. `node_of` and `literal_of` of the crate `rows` say what each number is.
+pub const NEGATIVE_NODE: u32 = 4;
+
+pub const OBJECT_NODE: u32 = 8;
+
+pub const OBJECT_LITERAL: u32 = 8;
+
 // A magnitude from 1 to 2^63.
 fn is_negative(low: u32, high: u32) -> bool
     ensures { result ≡ is_negative low high }
@@ -29,15 +36,11 @@ pub fn node_is_lawful(pool: &Pool, count: u32, row: u32, kind: u32, a: u32, b: u
     ensures { result ≡ node_lawful pool.now count row (node_of kind a b) }
 {
     match kind {
-        0 => true,
-        1 => true,
-        2 => true,
-        3 => true,
+        0..=3 => true,
         4 => is_negative(a, b),
         5 => is_float_text(pool, Text { start: a, len: b }),
         6 => is_string(pool, Text { start: a, len: b }),
-        7 => is_later(count, row, Range { first: a, count: b }),
-        8 => is_later(count, row, Range { first: a, count: b }),
+        7 | 8 => is_later(count, row, Range { first: a, count: b }),
         _ => false,
     }
 }
@@ -71,17 +74,13 @@ pub fn literal_is_lawful(
     ensures { result ≡ literal_lawful pool.now names count row (literal_of kind a b) }
 {
     match kind {
-        0 => true,
-        1 => true,
-        2 => true,
+        0..=2 => true,
         3 => a < 2147483648,
         4 => (1 <= a) & (a <= 2147483648),
         5 => is_float_text(pool, Text { start: a, len: b }),
         6 => is_string(pool, Text { start: a, len: b }),
-        7 => is_later(count, row, Range { first: a, count: b }),
-        8 => is_later(count, row, Range { first: a, count: b }),
-        9 => a < names,
-        10 => a < names,
+        7 | 8 => is_later(count, row, Range { first: a, count: b }),
+        9 | 10 => a < names,
         _ => false,
     }
 }

@@ -59,10 +59,8 @@ fn parts_are_lawful(kind: TypeKind, fields: u32, members: u32) -> bool
 {
     match kind {
         TypeKind::Scalar => (fields == 0) & (members == 0),
-        TypeKind::Enum => fields == 0,
-        TypeKind::Union => fields == 0,
-        TypeKind::Object => true,
-        TypeKind::Interface => true,
+        TypeKind::Enum | TypeKind::Union => fields == 0,
+        TypeKind::Object | TypeKind::Interface => true,
         TypeKind::InputObject => members == 0,
         TypeKind::Unknown => false,
     }

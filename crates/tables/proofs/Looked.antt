@@ -1,6 +1,6 @@
 -- Rows looked at one after the other for two things: a test that each has to pass, and one that is only kept in mind. Assumes nothing.
 use mathlib.Core.Path.{◌≡◌, sym}
-use mathlib.Core.Bool.{Bool, true, false, not, ◌&&◌, false≢true}
+use mathlib.Core.Bool.{Bool, true, false, not, ◌&&◌}
 use Prim.Native.Nat.{ℕ, ◌+◌, ◌≤◌, ◌<◌}
 use Rattle.std.specs.Prelude.{Some, None}
 use Rattle.rows.specs.Rows.{all}

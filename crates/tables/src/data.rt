@@ -20,8 +20,10 @@ use rows::json::{LITERAL_WIDTH, NODE_WIDTH, VARIABLE_WIDTH};
 use rows::layout::{Range, row_count, word};
 use rows::limits::{MOST_ANSWERS, MOST_LITERALS};
 use rows::strings::Text;
-use rules::answers::{answer_is_lawful, root_answer_is_object};
-use rules::json::{literal_is_lawful, node_is_lawful, variable_row};
+use rules::answers::{LEAF_ANSWER, OBJECT_ANSWER, answer_is_lawful, root_answer_is_object};
+use rules::json::{
+    NEGATIVE_NODE, OBJECT_LITERAL, OBJECT_NODE, literal_is_lawful, node_is_lawful, variable_row,
+};
 use rules::strings::{Pool, is_string};
 
 // `count` is how many nodes there are.
@@ -39,7 +41,7 @@ fn node_holds(pool: &Pool, count: u32, nodes: &[u32], row: u32) -> bool
     }
     let kind = word(nodes, NODE_WIDTH, row, NODE_KIND);
     // Most nodes; nothing is asked of their words.
-    if kind < 4 {
+    if kind < NEGATIVE_NODE {
         return true;
     }
     let a = word(nodes, NODE_WIDTH, row, NODE_ONE);
@@ -53,10 +55,8 @@ fn node_is_plain(nodes: &[u32], row: u32) -> bool
     requires { row < rows_of nodes.now node_width }
     ensures { result ≡ is_plain nodes.now row }
 {
-    if word(nodes, NODE_WIDTH, row, NODE_KIND) != 8 {
-        return true;
-    }
-    word(nodes, NODE_WIDTH, row, NODE_TWO) < 2
+    (word(nodes, NODE_WIDTH, row, NODE_KIND) != OBJECT_NODE)
+        || (word(nodes, NODE_WIDTH, row, NODE_TWO) < 2)
 }
 
 // Whether each row holds, and if so whether each is known to have nothing to compare. Both are asked in one pass, since two take a third
@@ -99,7 +99,7 @@ fn nodes_hold(pool: &Pool, nodes: &[u32]) -> bool
 fn literal_keys_differ(keys: &Noted<LITERAL_WIDTH, LITERAL_KEY>, kind: u32, a: u32, b: u32) -> bool
     ensures { result ≡ literal_parts keys.now (literal_of kind a b) }
 {
-    (kind != 8) || keys.is_distinct(Range { first: a, count: b })
+    (kind != OBJECT_LITERAL) || keys.is_distinct(Range { first: a, count: b })
 }
 
 // `count` is how many literals there are; the notes are on their keys.
@@ -149,7 +149,7 @@ fn answer_holds(names: u32, nodes: u32, count: u32, answers: &[u32], row: u32) -
     let name = word(answers, ANSWER_WIDTH, row, ANSWER_NAME);
     let a = word(answers, ANSWER_WIDTH, row, ANSWER_ONE);
     // Most answers are leaves.
-    if kind == 2 {
+    if kind == LEAF_ANSWER {
         return (name < names) & (a < nodes);
     }
     let b = word(answers, ANSWER_WIDTH, row, ANSWER_TWO);
@@ -162,10 +162,8 @@ fn answer_is_plain(answers: &[u32], row: u32) -> bool
     requires { row < rows_of answers.now answer_width }
     ensures { result ≡ plain_answer answers.now row }
 {
-    if word(answers, ANSWER_WIDTH, row, ANSWER_KIND) != 4 {
-        return true;
-    }
-    word(answers, ANSWER_WIDTH, row, ANSWER_THREE) < 2
+    (word(answers, ANSWER_WIDTH, row, ANSWER_KIND) != OBJECT_ANSWER)
+        || (word(answers, ANSWER_WIDTH, row, ANSWER_THREE) < 2)
 }
 
 fn names_in_answer_differ(names: &Noted<ANSWER_WIDTH, ANSWER_NAME>, row: u32) -> bool
@@ -173,7 +171,7 @@ fn names_in_answer_differ(names: &Noted<ANSWER_WIDTH, ANSWER_NAME>, row: u32) ->
     ensures { result ≡ answer_names_differ names.now row }
 {
     let answers = names.table();
-    if word(answers, ANSWER_WIDTH, row, ANSWER_KIND) != 4 {
+    if word(answers, ANSWER_WIDTH, row, ANSWER_KIND) != OBJECT_ANSWER {
         return true;
     }
     let rows = Range {

@@ -33,8 +33,7 @@ fn is_closed(runs: &[u16], kind: u32, a: u32, b: u32) -> bool
     ensures { result ≡ closed_in runs.now (literal_of kind a b) }
 {
     match kind {
-        7 => is_in_run(runs, Range { first: a, count: b }),
-        8 => is_in_run(runs, Range { first: a, count: b }),
+        7 | 8 => is_in_run(runs, Range { first: a, count: b }),
         10 => false,
         _ => true,
     }

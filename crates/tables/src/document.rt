@@ -18,7 +18,7 @@ use rows::columns::{
 use rows::document::{FRAGMENT_WIDTH, GIVEN_WIDTH, SELECTION_WIDTH, SET_WIDTH, set_at};
 use rows::layout::{Range, row_count, word};
 use rows::limits::MOST_SELECTIONS;
-use rules::document::{child_is_larger, fragment_row, selection_is_lawful, set_row};
+use rules::document::{FIELD_KIND, child_is_larger, fragment_row, selection_is_lawful, set_row};
 
 #[tactic(auto, unfolding(rows::specs::Document::given_at))]
 fn given_holds(names: u32, literals: u32, given: &[u32], row: u32) -> bool
@@ -48,7 +48,7 @@ fn given_differ(
 ) -> bool
     ensures { result ≡ given_of given.now (selected_of kind name (record { name = name; key = key; given = its_given; set = set; ty = ty })) }
 {
-    (kind != 0) || given.is_distinct(its_given)
+    (kind != FIELD_KIND) || given.is_distinct(its_given)
 }
 
 // `count` is how many arguments are given; the notes are on their names.

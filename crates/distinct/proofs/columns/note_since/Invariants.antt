@@ -1,6 +1,6 @@
 -- The next note follows from the one before and from the last row that has the word. Assumes nothing.
 use mathlib.Core.Path.{◌≡◌}
-use Prim.Native.Nat.{◌-◌, ◌≤◌}
+use Prim.Native.Nat.{◌≤◌}
 use lib.ListN.{length, get_or}
 use Rattle.rows.specs.Rows.{cell}
 use Rattle.rules.specs.Rows.{other}

@@ -2,7 +2,7 @@
 use borrow.Author.Rules.{rules}
 use Rattle.rules.specs.Rows.{distinct}
 use Rattle.rows.proofs.Every.{every}
-use Rattle.rules.proofs.Marks.{met_none}
+use Rattle.rules.proofs.MetWords.{met_none}
 use Rattle.rules.proofs.layout.is_distinct.Goals as goal
 
 pub loop-i-init : goal.loop-i-init

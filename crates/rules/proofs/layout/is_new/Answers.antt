@@ -1,6 +1,5 @@
 use borrow.Author.Rules.{rules}
-use Prim.Native.Nat.{◌+◌}
-use Rattle.rules.specs.Rows.{other, is_new}
+use Rattle.rules.specs.Rows.{is_new}
 use Rattle.rules.proofs.Ranges.{all_in_range}
 use Rattle.rules.proofs.layout.is_new.Goals as goal
 

@@ -1,7 +1,5 @@
 -- From the last row on the runs are right; the parts of a literal come later, and theirs are kept already. Assumes nothing.
-use mathlib.Core.Path.{◌≡◌}
-use Prim.Native.Nat.{◌+◌, ◌-◌}
-use Rattle.tables.proofs.Closed.{mark_turn, mark_end}
+use Rattle.tables.proofs.Closed.{mark_turn}
 use borrow.Author.Rules.{rules}
 use native.Mathlib.Omega.{arith}
 use Rattle.tables.proofs.defaults.mark_all.Goals as goal

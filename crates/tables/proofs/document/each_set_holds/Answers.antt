@@ -1,12 +1,8 @@
 -- From the last set on: those passed hold, and one that does not ends the search. Assumes nothing.
-use mathlib.Core.Path.{◌≡◌, sym}
-use mathlib.Core.List.{List}
-use mathlib.Core.Bool.{Bool, true, not, false}
-use Prim.Native.Nat.{ℕ, ◌≤◌, ◌<◌, ◌-◌}
-use native.Mathlib.Decide.{dec_le}
+use mathlib.Core.Path.{sym}
+use Prim.Native.Nat.{◌-◌}
 use native.Mathlib.Omega.{arith}
-use Rattle.tables.specs.ByTable.{set_holds}
-use Rattle.rows.proofs.Every.{all_broken, all_each, verified}
+use Rattle.rows.proofs.Every.{all_broken, all_each}
 use Rattle.tables.proofs.Skips.{skips_none, skips_smaller}
 use Rattle.tables.proofs.document.each_set_holds.Goals as goal
 
