@@ -34,7 +34,7 @@ fn fail_argument(error: FieldError, argument: Argument) -> Result<(), Uncoerced>
     ensures { result ≡ argument_fails error argument }
 {
     Err(Uncoerced::Failed(Failure {
-        error: error,
+        error,
         place: argument.place,
     }))
 }
@@ -44,8 +44,7 @@ fn default_argument(tables: &Tables, argument: Argument) -> Result<(), Uncoerced
     requires { let t = lent tables.now in Parted t.literals }
     ensures { let t = lent tables.now in ChecksDefault t.refs t.literals argument result }
 {
-    let default = argument.default;
-    match default {
+    match argument.default {
         Some(value) => check_part_by_part(tables.literals, MOST_OPEN, value),
         None => {
             if is_non_null(tables.type_refs, argument.ty) {

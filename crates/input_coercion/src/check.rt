@@ -41,7 +41,7 @@ fn fail_at(literals: &[u32], error: FieldError, row: u32) -> Result<(), Uncoerce
     ensures { result ≡ literal_fails literals.now error row }
 {
     Err(Uncoerced::Failed(Failure {
-        error: error,
+        error,
         place: literal_place(literals, row),
     }))
 }
@@ -82,8 +82,7 @@ pub fn check_part_by_part(literals: &[u32], room: u32, row: u32) -> Result<(), U
     ensures { Checks (of_part literals.now room row) result }
 {
     match literal_at(literals, row) {
-        Literal::List(rows) => check_parts(literals, room, rows),
-        Literal::Object(rows) => check_parts(literals, room, rows),
+        Literal::List(rows) | Literal::Object(rows) => check_parts(literals, room, rows),
         Literal::Variable(_) => Err(Uncoerced::Stop(Outcome::VariableInLiteral)),
         _ => Ok(()),
     }
@@ -196,8 +195,7 @@ fn input_field(
     if let Some(literal) = given_for(tables, given, field) {
         return coerce_argument_value(tables, room, ty, literal);
     }
-    let default = def.default;
-    match default {
+    match def.default {
         Some(value) => check_part_by_part(tables.literals, room, value),
         None => {
             if is_non_null(tables.type_refs, ty) {
@@ -243,9 +241,9 @@ fn has_unknown_key(tables: &Tables, ty: u32, given: Range) -> bool
     let count = given.count;
     for i in 0..count {
         let key = literal_key(tables.literals, first + i);
-        let Some(_) = field_named(tables, ty, key) else {
+        if field_named(tables, ty, key).is_none() {
             return true;
-        };
+        }
     }
     false
 }
@@ -269,9 +267,7 @@ fn input_object(
     if has_unknown_key(tables, ty, given) {
         return fail_at(tables.literals, FieldError::UnknownKey, row);
     }
-    let def = type_at(tables.types, ty);
-    let declared = def.fields;
-    input_fields(tables, room, row, given, declared)
+    input_fields(tables, room, row, given, type_at(tables.types, ty).fields)
 }
 
 // At a type that is no input object a literal converts part by part.
@@ -290,9 +286,7 @@ fn coerce_named(
     let Some(ty) = type_named(tables.types, name) else {
         return fail_at(tables.literals, FieldError::UndefinedInputType, row);
     };
-    let def = type_at(tables.types, ty);
-    let kind = def.kind;
-    let TypeKind::InputObject = kind else {
+    let TypeKind::InputObject = type_at(tables.types, ty).kind else {
         return check_part_by_part(tables.literals, room, row);
     };
     input_object(tables, room, ty, row, shape)
