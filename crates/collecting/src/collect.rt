@@ -17,12 +17,18 @@ use rows::tables::Tables;
 // "A 129th field is collected for one set" is code 4.
 pub const MOST_COLLECTED: usize = 128;
 
-// What has been collected: the fragments visited, a bit for each row, and how many fields. The fields stand in a lent array.
+// What has been collected: the fragments visited, a bit for each row, and how many fields. The fields stand in an array that the caller lends, since
+// there is no heap; the two words beside it go by value from step to step.
 #[derive(Clone, Copy)]
 pub struct Gathered {
     pub visited: u64,
     pub count: usize,
 }
+
+pub const NOTHING_YET: Gathered = Gathered {
+    visited: 0,
+    count: 0,
+};
 
 // What is gathered with one field more; or why collecting stops: a 33rd fragment would be open, or a 129th field collected.
 fn collect_field(list: &mut [u16], row: u32, gathered: Gathered) -> Result<Gathered, Outcome>

@@ -41,7 +41,5 @@ fn eval_if_arg(tables: &Tables, default: bool, condition: Condition) -> bool
 pub fn is_dropped(tables: &Tables, skip: Condition, include: Condition) -> bool
     ensures { let t = lent tables.now in result ≡ (holds t.variables t.nodes false skip || not (holds t.variables t.nodes true include)) }
 {
-    let skipped = eval_if_arg(tables, false, skip);
-    let included = eval_if_arg(tables, true, include);
-    skipped | !included
+    eval_if_arg(tables, false, skip) || !eval_if_arg(tables, true, include)
 }

@@ -169,6 +169,11 @@ pub record Which (plans : List ℕ) (first groups key r : ℕ) : Type 0 where
   pub others : (group : ℕ) → group < r → word_at plans (first + group) 3 ≡ key → ⊥
   pub found : r < groups → word_at plans (first + r) 3 ≡ key
 
+-- that group, if one has the key
+abbrev pub FirstWith : (plans : List ℕ) (first groups key : ℕ) → Option ℕ → Type 0
+FirstWith plans first groups key (Some r) = (r < groups) × Which plans first groups key r
+FirstWith plans first groups key None = Which plans first groups key groups
+
 -- the row of a group is put, and what stands before it is as before
 pub record PutRow (refs types fields : List ℕ) (object row selection : ℕ) (field : FieldSelection) (plans plans' : List ℕ) : Type 0 where
   pub kept : Kept plans (8 * row) plans'

@@ -10,7 +10,7 @@ use crate::layout::{
     FIELD_GROUP, FIELD_SELECTION, field_count, first_field, group_count, group_row, word,
 };
 use codes::outcome::Outcome;
-use collecting::collect::{Gathered, collect_fields};
+use collecting::collect::{Gathered, NOTHING_YET, collect_fields};
 use rows::document::{field_selection, set_at};
 use rows::tables::Tables;
 
@@ -69,10 +69,7 @@ fn collect_children(
     requires { let t = lent tables.now in Collectable t.types t.sets t.fragments list.old × (8 * (first + fields) ≤ length plans.now) × (length plans.now ≤ most_words) }
     ensures { let t = lent tables.now in Gathers t.types t.members t.sets t.selections t.fragments t.nodes t.variables object (fields_of plans.now first group fields) list.old result list.new }
 {
-    let mut so_far = Gathered {
-        visited: 0,
-        count: 0,
-    };
+    let mut so_far = NOTHING_YET;
     for i in 0..fields {
         so_far = collect_owned(tables, plans, list, object, first + i, group, so_far)?;
     }
@@ -94,11 +91,13 @@ pub fn collect_group(
     let groups = group_count(plans, plan);
     let fields = field_count(plans, plan);
     if groups == fields {
-        let none = Gathered {
-            visited: 0,
-            count: 0,
-        };
-        return collect_child(tables, list, object, first_field(plans, plan, group), none);
+        return collect_child(
+            tables,
+            list,
+            object,
+            first_field(plans, plan, group),
+            NOTHING_YET,
+        );
     }
     let first = group_row(plan, groups);
     collect_children(tables, plans, list, object, first, fields, group)
@@ -109,9 +108,12 @@ pub fn collect_operation(tables: &Tables, list: &mut [u16], root: u32) -> Result
     requires { let t = lent tables.now in Collectable t.types t.sets t.fragments list.old }
     ensures { let t = lent tables.now in CollectsRows t.types t.members t.sets t.selections t.fragments t.nodes t.variables most_open root (set_at t.sets 0) list.old (record { visited = 0; count = 0 }) result list.new }
 {
-    let none = Gathered {
-        visited: 0,
-        count: 0,
-    };
-    collect_fields(tables, list, root, set_at(tables.sets, 0), MOST_OPEN, none)
+    collect_fields(
+        tables,
+        list,
+        root,
+        set_at(tables.sets, 0),
+        MOST_OPEN,
+        NOTHING_YET,
+    )
 }

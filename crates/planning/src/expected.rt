@@ -12,7 +12,8 @@ use lookup::named::type_named;
 use rows::schema::{TypeKind, TypeRef, type_at, type_ref_at};
 use rows::tables::Tables;
 
-// Something that needs care; a leaf of a scalar (its name) or of an enum (its row); an object (its type); a list (the type of its items).
+// What is expected is said in the two words of a group's row, which is fixed memory: they are put there as they are, and no code takes a kind
+// apart from them again. Something that needs care; a leaf of a scalar (its name) or of an enum (its row); an object (its type); a list (the type of its items).
 pub const CARE: u16 = 0;
 
 pub const SCALAR: u16 = 1;
@@ -36,14 +37,8 @@ fn with(nullable: bool, what: u16, of: u32) -> Expected
     requires { (what < 8) × (of < 65536) }
     ensures { result ≡ with' nullable what of }
 {
-    if nullable {
-        return Expected {
-            what: what + NULLABLE,
-            of: of as u16,
-        };
-    }
     Expected {
-        what,
+        what: if nullable { what + NULLABLE } else { what },
         of: of as u16,
     }
 }

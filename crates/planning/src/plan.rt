@@ -10,6 +10,7 @@ use crate::layout::{
     HEAD, HEAD_FIELDS, HEAD_GROUP, HEAD_GROUPS, HEAD_PLAN, HEAD_TYPE, MOST_PLAN_ROWS, WIDTH, word,
 };
 use codes::outcome::Outcome;
+use collecting::collect::MOST_COLLECTED;
 use rows::tables::Tables;
 
 // The row of a plan, and how many rows stand.
@@ -53,7 +54,7 @@ fn put_plan(
     requires { let t = lent tables.now in Puttable t.refs t.types t.fields t.selections list.now count at plan group plans.old }
     ensures { let t = lent tables.now in PutPlan t.refs t.types t.fields t.selections list.now count at by plan group object plans.old result plans.new }
 {
-    let mut owners = [0u16; 128];
+    let mut owners = [0u16; MOST_COLLECTED];
     let first = at + 1;
     let groups = put_groups(tables, plans, list, &mut owners, first, count, object);
     put_head(plans, at, by, groups, count, plan, group);
@@ -119,7 +120,7 @@ fn make_plan(
     requires { let t = lent tables.now in Plannable t.refs t.types t.fields t.sets t.selections t.fragments plans.old top plan group object × (8 * (top + 256) ≤ length plans.old) }
     ensures { let t = lent tables.now in PlansFor t.refs t.types t.members t.fields t.sets t.selections t.fragments t.nodes t.variables plans.old top plan group object (roomy result) plans.new }
 {
-    let mut list = [0u16; 128];
+    let mut list = [0u16; MOST_COLLECTED];
     let gathered = collect_group(tables, plans, &mut list, object, plan, group)?;
     let by = HEAD + (object as u16);
     let count = gathered.count;
@@ -161,7 +162,7 @@ pub fn plan_operation(tables: &Tables, store: &mut [u16], object: u32) -> Result
     requires { let t = lent tables.now in Storable t.refs t.types t.fields t.sets t.selections t.fragments store.old object }
     ensures { let t = lent tables.now in PlansAlone t.refs t.types t.members t.fields t.sets t.selections t.fragments t.nodes t.variables operation_of object store.old result store.new }
 {
-    let mut list = [0u16; 128];
+    let mut list = [0u16; MOST_COLLECTED];
     let gathered = collect_operation(tables, &mut list, object)?;
     Ok(plan_set(tables, store, &list, gathered.count, object))
 }
@@ -178,7 +179,7 @@ pub fn plan_apart(
     requires { let t = lent tables.now in Storable t.refs t.types t.fields t.sets t.selections t.fragments store.old object × Lookable plans.now plan group }
     ensures { let t = lent tables.now in PlansAlone t.refs t.types t.members t.fields t.sets t.selections t.fragments t.nodes t.variables (beneath_group plans.now plan group) object store.old result store.new }
 {
-    let mut list = [0u16; 128];
+    let mut list = [0u16; MOST_COLLECTED];
     let gathered = collect_group(tables, plans, &mut list, object, plan, group)?;
     Ok(plan_set(tables, store, &list, gathered.count, object))
 }
