@@ -14,16 +14,14 @@ use Rattle.rows.specs.Json.{variable_at}
 use Rattle.rows.specs.declared.schema.Field.{Field}
 use Rattle.rows.specs.declared.json.VariableValue.{VariableValue}
 use Rattle.codes.specs.declared.errors.FieldError.TheVariants as error
-use Rattle.tokens.specs.Escape.{quoted}
 use Rattle.tokens.specs.Literal.{null_name}
 use Rattle.writing.specs.Wrote.{Writes}
-use Rattle.writing.proofs.WritesLaws.{cons, «then»}
 use Rattle.graphql.specs.Run.{Choices, M, pure, halt}
 use Rattle.graphql.specs.Json.{Json, null, print, containers}
 use Rattle.graphql.specs.Lookup.{non_null, variable_named}
 use Rattle.graphql.specs.Values.{variable_value, part_by_part}
 use Rattle.graphql.specs.Coerce.{null_against, coerce_variable}
-use Rattle.values.specs.Put.{Put, ended, Ends, Puts, PutsNode}
+use Rattle.values.specs.Put.{Put, label, label_of, ended, Ends, Puts, PutsNode}
 use Rattle.values.specs.Room.{Within}
 use Rattle.values.specs.Literals.{Ending, PutLiteral, ended_as, EndsAs, PutsLiteral}
 use Rattle.values.proofs.Room.{node_within, literal_fits}
@@ -131,8 +129,8 @@ pub ruleset variabled = (variable_none, variable_some)
 
 -- ---- the label of a field
 
-pub field_labelled : (pool names fields : List ℕ) (field : ℕ) {t t1 t2 t3 bytes : List ℕ} {a a1 a2 a3 : ℕ} {def : Field} → def ≡ field_at fields field
-    → bytes ≡ name_text pool names def.name → Writes t t1 a a1 (44 ∷ []) → Writes t1 t2 a1 a2 (quoted bytes)
-    → Writes t2 t3 a2 a3 (58 ∷ []) → Writes t t3 a a3 (field_label (name_text pool names (field_at fields field).name))
-unfolding field_label
-field_labelled pool names fields field d b w v u = cons w («then» (rw (b, d) at v) u)
+pub field_labelled : (pool names fields : List ℕ) (field : ℕ) {t t1 bytes : List ℕ} {a a1 : ℕ} {def : Field} → def ≡ field_at fields field
+    → bytes ≡ name_text pool names def.name → Writes t t1 a a1 (label_of (Some bytes))
+    → Writes t t1 a a1 (field_label (name_text pool names (field_at fields field).name))
+unfolding field_label label
+field_labelled pool names fields field d b w = rw (b, d) at w

@@ -26,14 +26,14 @@ use rows::schema::{
     ARGUMENT_WIDTH, TypeKind, TypeRef, argument_at, field_at, type_at, type_ref_at,
 };
 use rows::tables::Tables;
-use tokens::json::{put_null, put_string};
+use tokens::json::put_null;
 use values::literal::put_literal;
-use values::node::put_node;
+use values::node::{put_label, put_node};
 use writing::place::close;
 use writing::write::put;
 
 // Where an argument's value stands: a variable's node, a literal at a type, a default.
-#[derive(Clone, Copy)]
+#[derive(Clone, Copy, PartialEq, Eq, Debug)]
 pub enum Source {
     Node(u32),
     Literal { ty: u32, row: u32 },
@@ -152,9 +152,7 @@ fn put_field_label(tables: &Tables, text: &mut [u8], at: usize, field: u32) -> u
         (field_label (name_text t.pool t.names (field_at t.fields field).name)) }
 {
     let def = field_at(tables.fields, field);
-    let key = put(text, at, b',');
-    let colon = put_string(text, key, name_text(tables.pool, tables.names, def.name));
-    put(text, colon, b':')
+    put_label(text, at, Some(name_text(tables.pool, tables.names, def.name)))
 }
 
 // An input field with its comma and its name; nothing where it is left out.

@@ -32,6 +32,7 @@ use Rattle.values.specs.Put.{label, left, right, container_of}
 use Rattle.values.specs.Literals.{PutLiteral, plain_literal, LiteralsParted, literal_key_text, parts_value, PutsAs, PutsParts, PutsLiteral}
 use Rattle.values.specs.declared.node.Parts.{Parts}
 use Rattle.values.proofs.Insides.{insides, literal_is}
+use Rattle.values.proofs.Labels.{part_labelled}
 use Rattle.values.proofs.LiteralEnds.{ends_at, ends_stopped, came_at, stops_too}
 use Rattle.values.proofs.Parts.{container_full}
 use Rattle.values.proofs.Going.{Going, going_begin, part_written, part_stops, part_long, whole, whole_done, whole_written}
@@ -210,6 +211,7 @@ module _ (pool names literals : List ℕ) (room : ℕ) (parts : Parts) where
         (whole_written key inside parts.keyed _ _ text₀ at g l q))
 
 pub ruleset walking = (
+  part_labelled,
   literal_plain,
   literal_list,
   literal_object,

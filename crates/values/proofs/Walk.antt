@@ -19,6 +19,7 @@ use Rattle.values.specs.Plain.{plain_value}
 use Rattle.values.specs.Put.{Put, shape_of, Parted, label, key_text, left, right, Puts, container_of, container_value, PutsContainer, PutsNode}
 use Rattle.values.specs.declared.node.Parts.{Parts}
 use Rattle.values.proofs.Ends.{ends_at, ends_too_far, came_at, came_too_far}
+use Rattle.values.proofs.Labels.{part_labelled}
 use Rattle.values.proofs.Nodes.{container_node, shape_container}
 use Rattle.values.proofs.Parts.{container_full}
 use Rattle.values.proofs.Going.{Going, going_begin, part_written, part_stops, part_long, whole, whole_done, whole_written}
@@ -129,4 +130,4 @@ module _ (pool nodes : List ℕ) (room : ℕ) (parts : Parts) where
         (whole_done (key_text pool nodes) inside parts.keyed _ _ text₀ at g l (room - 1))
         (whole_written (key_text pool nodes) inside parts.keyed _ _ text₀ at g l q))
 
-pub ruleset walking = (node_plain, parts_within, node_container, container_none, going_begin, going_again, container_stopped, container_ended)
+pub ruleset walking = (part_labelled, node_plain, parts_within, node_container, container_none, going_begin, going_again, container_stopped, container_ended)

@@ -40,6 +40,16 @@ unfoldable pub label : (keyed : Bool) (key : List ℕ) → List ℕ
 label false key = 44 ∷ []
 label true key = 44 ∷ (quoted key ++ (58 ∷ []))
 
+-- the key of a part, if the parts have keys
+abbrev pub key_of : (keyed : Bool) (key : List ℕ) → Option (List ℕ)
+key_of false key = None
+key_of true key = Some key
+
+-- the same label, by the key
+abbrev pub label_of : Option (List ℕ) → List ℕ
+label_of None = label false []
+label_of (Some key) = label true key
+
 abbrev pub left : Bool → ℕ
 left false = 91
 left true = 123

@@ -32,9 +32,6 @@ put_parts-returns-in_err-next t c =
     let stopped : c.put_literal.result ≡ Err c.in_err-next.field-0.0 = c.in_err-next.was in
     rw gone (search walk)
 
-pub put_parts-loop-i-smaller : goal.put_parts-loop-i-smaller
-put_parts-loop-i-smaller t c = search walk
-
 pub put_parts-loop-i-preserved : goal.put_parts-loop-i-preserved
 put_parts-loop-i-preserved t c = search walk
 

@@ -20,9 +20,6 @@ put_container-returns-in_err-next t c =
     let far : c.put_node.result ≡ None = c.in_err-next.was in
     rw gone (search walk)
 
-pub put_container-loop-i-smaller : goal.put_container-loop-i-smaller
-put_container-loop-i-smaller t c = search walk
-
 pub put_container-loop-i-preserved : goal.put_container-loop-i-preserved
 put_container-loop-i-preserved t c = search walk
 
