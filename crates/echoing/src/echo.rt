@@ -116,7 +116,7 @@ fn put_variable(tables: &Tables, text: &mut [u8], at: usize, room: u32, name: u3
         return Some(put_null(text, at));
     };
     let variable = variable_at(tables.variables, row);
-    put_node(tables, text, at, room, variable.node)
+    put_node(tables, text, at, room, variable.node).ok()
 }
 
 #[cycle(put_coerced_put_input_field_put_input_object_put_items_put_named_put_shaped)]

@@ -122,7 +122,7 @@ pub fn put_leaf(tables: &Tables, text: &mut [u8], at: usize, leaf: Leaf) -> Opti
     ensures { let t = lent tables.now in PutsLeaf t.pool t.names t.refs t.types t.fields t.nodes t.literals t.variables leaf text.old at result text.new }
 {
     match leaf {
-        Leaf::Node(row) => put_node(tables, text, at, MOST_OPEN, row),
+        Leaf::Node(row) => put_node(tables, text, at, MOST_OPEN, row).ok(),
         Leaf::Name(name) => Some(put_string(text, at, name_text(tables.pool, tables.names, name))),
         Leaf::Literal { ty, row } => put_coerced(tables, text, at, MOST_OPEN, ty, row),
         Leaf::Default(row) => put_checked_literal(tables, text, at, MOST_OPEN, row),

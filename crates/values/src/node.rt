@@ -7,6 +7,7 @@ ghost use Rattle.values.specs.Put.{shape_of, label_of, key_of, key_text, left, r
 ghost use Rattle.tables.specs.Tables.{lent};
 
 use crate::plain::put_plain;
+use codes::outcome::Outcome;
 use rows::json::{Node, node_at, node_key};
 use rows::layout::Range;
 use rows::strings::text_of;
@@ -65,7 +66,7 @@ pub fn put_brackets(text: &mut [u8], start: usize, at: usize, keyed: bool) -> us
     close(text, start, at, b'[', b']')
 }
 
-// The position after the text; none where a container more would be open than there is room for.
+// The position after the text; or a container more would be open than there is room for.
 #[cycle(put_container_put_node)]
 fn put_container(
     tables: &Tables,
@@ -73,13 +74,13 @@ fn put_container(
     at: usize,
     room: u32,
     parts: Parts,
-) -> Option<usize>
+) -> Result<usize, Outcome>
     requires parted { let t = lent tables.now in Parted t.nodes }
     requires count_bound { parts.rows.first + parts.rows.count ≤ most_nodes }
     ensures { let t = lent tables.now in PutsContainer t.pool t.nodes room parts text.old at result text.new }
 {
     if room == 0 {
-        return None;
+        return Err(Outcome::TooFar);
     }
     let keyed = parts.keyed;
     let rows = parts.rows;
@@ -91,18 +92,24 @@ fn put_container(
         let value = put_label(text, next, part_key(tables, keyed, row));
         next = put_node(tables, text, value, room - 1, row)?;
     }
-    Some(put_brackets(text, at, next, keyed))
+    Ok(put_brackets(text, at, next, keyed))
 }
 
 // What was written before it was too far is nobody's.
 #[cycle(put_container_put_node)]
-pub fn put_node(tables: &Tables, text: &mut [u8], at: usize, room: u32, row: u32) -> Option<usize>
+pub fn put_node(
+    tables: &Tables,
+    text: &mut [u8],
+    at: usize,
+    room: u32,
+    row: u32,
+) -> Result<usize, Outcome>
     requires { let t = lent tables.now in Parted t.nodes }
     ensures { let t = lent tables.now in PutsNode t.pool t.nodes room row text.old at result text.new }
 {
     let node = node_at(tables.nodes, row);
     let Some(parts) = shape_of(node) else {
-        return Some(put_plain(tables.pool, text, at, node));
+        return Ok(put_plain(tables.pool, text, at, node));
     };
     put_container(tables, text, at, room, parts)
 }
