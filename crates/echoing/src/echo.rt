@@ -119,7 +119,7 @@ fn put_variable(tables: &Tables, text: &mut [u8], at: usize, room: u32, name: u3
     put_node(tables, text, at, room, variable.node).ok()
 }
 
-#[cycle(put_coerced_put_input_field_put_input_object_put_items_put_named_put_shaped)]
+#[cycle(coerced)]
 fn put_items(
     tables: &Tables,
     text: &mut [u8],
@@ -156,7 +156,7 @@ fn put_field_label(tables: &Tables, text: &mut [u8], at: usize, field: u32) -> u
 }
 
 // An input field with its comma and its name; nothing where it is left out.
-#[cycle(put_coerced_put_input_field_put_input_object_put_items_put_named_put_shaped)]
+#[cycle(coerced)]
 fn put_input_field(
     tables: &Tables,
     text: &mut [u8],
@@ -186,7 +186,7 @@ fn put_input_field(
     put_checked_literal(tables, text, value, room, constant)
 }
 
-#[cycle(put_coerced_put_input_field_put_input_object_put_items_put_named_put_shaped)]
+#[cycle(coerced)]
 fn put_input_object(
     tables: &Tables,
     text: &mut [u8],
@@ -215,7 +215,7 @@ fn put_input_object(
     Some(close(text, at, next, b'{', b'}'))
 }
 
-#[cycle(put_coerced_put_input_field_put_input_object_put_items_put_named_put_shaped)]
+#[cycle(coerced)]
 fn put_named(
     tables: &Tables,
     text: &mut [u8],
@@ -244,7 +244,7 @@ fn put_named(
     put_input_object(tables, text, at, room, given, declared)
 }
 
-#[cycle(put_coerced_put_input_field_put_input_object_put_items_put_named_put_shaped)]
+#[cycle(coerced)]
 fn put_shaped(
     tables: &Tables,
     text: &mut [u8],
@@ -275,7 +275,7 @@ fn put_shaped(
 }
 
 // A literal (a row) at a type reference (a row).
-#[cycle(put_coerced_put_input_field_put_input_object_put_items_put_named_put_shaped)]
+#[cycle(coerced)]
 pub fn put_coerced(
     tables: &Tables,
     text: &mut [u8],

@@ -45,7 +45,7 @@ fn part_key<'a>(tables: &Tables<'a>, keyed: bool, row: u32) -> Option<&'a [u8]>
 
 // The position after the text; or a container more would be open than there is room for, or a variable was reached.
 // The loop is that of `put_container`: a trait over both would need a key, a value and the laws of each, which is more than it saves.
-#[cycle(put_literal_put_parts)]
+#[cycle(literals)]
 fn put_parts(
     tables: &Tables,
     text: &mut [u8],
@@ -75,7 +75,7 @@ fn put_parts(
 }
 
 // What was written before it was given up is nobody's.
-#[cycle(put_literal_put_parts)]
+#[cycle(literals)]
 pub fn put_literal(
     tables: &Tables,
     text: &mut [u8],

@@ -67,7 +67,7 @@ pub fn put_brackets(text: &mut [u8], start: usize, at: usize, keyed: bool) -> us
 }
 
 // The position after the text; or a container more would be open than there is room for.
-#[cycle(put_container_put_node)]
+#[cycle(nodes)]
 fn put_container(
     tables: &Tables,
     text: &mut [u8],
@@ -96,7 +96,7 @@ fn put_container(
 }
 
 // What was written before it was too far is nobody's.
-#[cycle(put_container_put_node)]
+#[cycle(nodes)]
 pub fn put_node(
     tables: &Tables,
     text: &mut [u8],

@@ -4,7 +4,7 @@ use borrow.Author.Rules.{rules}
 use native.Mathlib.Omega.{arith}
 use Rattle.std.specs.Prelude.{Err}
 use Rattle.values.proofs.Walk.{walking}
-use Rattle.values.proofs.node.+put_container_put_node.Goals as goal
+use Rattle.values.proofs.node.+nodes.Goals as goal
 
 ruleset walk = (walking, rules)
 

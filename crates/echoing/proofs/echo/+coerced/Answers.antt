@@ -4,7 +4,7 @@ use borrow.Author.Rules.{rules}
 use Rattle.std.specs.Prelude.{None, Some}
 use Rattle.echoing.proofs.Fields.{items_again}
 use Rattle.echoing.proofs.Walk.{literals_parted_lem, valuing, shaping, naming, itemizing, fielding, opening}
-use Rattle.echoing.proofs.echo.+put_coerced_put_input_field_put_input_object_put_items_put_named_put_shaped.Goals as goal
+use Rattle.echoing.proofs.echo.+coerced.Goals as goal
 
 pub put_coerced-returns-in-Null : goal.put_coerced-returns-in-Null
 put_coerced-returns-in-Null t c = search (valuing, rules)

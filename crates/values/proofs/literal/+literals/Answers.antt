@@ -4,7 +4,7 @@ use borrow.Author.Rules.{rules}
 use native.Mathlib.Omega.{arith}
 use Rattle.std.specs.Prelude.{Err}
 use Rattle.values.proofs.Literals.{walking}
-use Rattle.values.proofs.literal.+put_literal_put_parts.Goals as goal
+use Rattle.values.proofs.literal.+literals.Goals as goal
 
 ruleset walk = (walking, rules)
 
