@@ -3,10 +3,9 @@ ghost use Rattle.std.specs.Prelude.{◌≡◌, cond};
 ghost use Rattle.rows.specs.Schema.{type_at};
 ghost use Rattle.rows.specs.declared.schema.TypeKind.TheVariants as kind;
 ghost use Rattle.codes.specs.declared.errors.FieldError.TheVariants as error;
-ghost use Rattle.graphql.specs.Json.{a_float, a_string, a_boolean};
 ghost use Rattle.graphql.specs.Lookup.{non_null};
 ghost use Rattle.lookup.specs.Found.{Listed};
-ghost use Rattle.completing.specs.Judged.{is, fitting, int_taken, id_taken, JudgesScalar, JudgesAt, JudgesLeaf};
+ghost use Rattle.completing.specs.Judged.{fitting, int_taken, id_taken, JudgesScalar, JudgesAt, JudgesLeaf};
 ghost use Rattle.completing.specs.Judged.{NamesType, NamesObject, TypesAt, TypesObject};
 ghost use Rattle.tables.specs.Tables.{lent};
 
@@ -32,24 +31,25 @@ fn named_type(tables: &Tables, ty: u32) -> Result<u32, FieldError>
     ensures { let t = lent tables.now in NamesType t.refs t.types ty result }
 {
     match type_ref_at(tables.type_refs, ty) {
-        TypeRef::Named { name, nullable: _ } => {
+        TypeRef::Named { name, .. } => {
             type_named(tables.types, name).ok_or(FieldError::UndefinedType)
         }
-        TypeRef::ListOf {
-            inner: _,
-            nullable: _,
-        } => Err(FieldError::ListTypeWithoutList),
+        TypeRef::ListOf { .. } => Err(FieldError::ListTypeWithoutList),
         TypeRef::Unknown => Err(FieldError::UndefinedType),
     }
+}
+
+// The value where the test holds, and otherwise the error.
+fn only_if<T: Drop>(ok: bool, value: T, error: FieldError) -> Result<T, FieldError>
+    ensures { result ≡ cond ok (Ok value) (Err error) }
+{
+    if ok { Ok(value) } else { Err(error) }
 }
 
 fn fits(ok: bool) -> Result<(), FieldError>
     ensures { result ≡ fitting ok }
 {
-    if ok {
-        return Ok(());
-    }
-    Err(FieldError::LeafOfAnotherKind)
+    only_if(ok, (), FieldError::LeafOfAnotherKind)
 }
 
 fn int_takes(sort: Sort) -> Result<(), FieldError>
@@ -68,33 +68,15 @@ fn id_takes(sort: Sort) -> bool
     matches!(sort, Sort::Int | Sort::Long | Sort::String)
 }
 
-fn is_float(sort: Sort) -> bool
-    ensures { result ≡ is a_float sort }
-{
-    matches!(sort, Sort::Float)
-}
-
-fn is_string(sort: Sort) -> bool
-    ensures { result ≡ is a_string sort }
-{
-    matches!(sort, Sort::String)
-}
-
-fn is_boolean(sort: Sort) -> bool
-    ensures { result ≡ is a_boolean sort }
-{
-    matches!(sort, Sort::Boolean)
-}
-
 // "Int: a signed 64-bit integer that fits 32 bits. Float: a float only. .. Other scalars: any JSON."
 pub fn scalar_takes(name: u32, sort: Sort) -> Result<(), FieldError>
     ensures { JudgesScalar name sort result }
 {
     match name {
         INT => int_takes(sort),
-        FLOAT => fits(is_float(sort)),
-        STRING => fits(is_string(sort)),
-        BOOLEAN => fits(is_boolean(sort)),
+        FLOAT => fits(sort == Sort::Float),
+        STRING => fits(sort == Sort::String),
+        BOOLEAN => fits(sort == Sort::Boolean),
         ID => fits(id_takes(sort)),
         _ => Ok(()),
     }
@@ -104,10 +86,8 @@ fn enum_takes(tables: &Tables, ty: u32, sort: Sort, string: &[u8]) -> Result<(),
     requires { let t = lent tables.now in Listed t.types }
     ensures { let t = lent tables.now in JudgesAt t.pool t.names t.types t.members ty kind.Enum sort string.now result }
 {
-    if is_string(sort) {
-        if has_value(tables, ty, string) {
-            return Ok(());
-        }
+    if sort == Sort::String && has_value(tables, ty, string) {
+        return Ok(());
     }
     Err(FieldError::NotAnEnumValue)
 }
@@ -118,8 +98,7 @@ fn leaf_at(tables: &Tables, ty: u32, sort: Sort, string: &[u8]) -> Result<(), Fi
     ensures { let t = lent tables.now in JudgesAt t.pool t.names t.types t.members ty (type_at t.types ty).kind sort string.now result }
 {
     let def = type_at(tables.types, ty);
-    let kind = def.kind;
-    match kind {
+    match def.kind {
         TypeKind::Scalar => scalar_takes(def.name, sort),
         TypeKind::Enum => enum_takes(tables, ty, sort, string),
         TypeKind::InputObject => Err(FieldError::InputObjectType),
@@ -132,9 +111,10 @@ fn null_at(type_refs: &[u32], ty: u32) -> Result<(), FieldError>
     ensures { result ≡ cond (non_null type_refs.now ty) (Err error.NullForNonNull) (Ok tt) }
 {
     if is_non_null(type_refs, ty) {
-        return Err(FieldError::NullForNonNull);
+        Err(FieldError::NullForNonNull)
+    } else {
+        Ok(())
     }
-    Ok(())
 }
 
 // Whether a leaf of this sort, with these bytes if it is a string, fits a type; a null comes before everything else.
@@ -154,21 +134,10 @@ fn object_named(types: &[u32], name: u32) -> Option<u32>
     ensures { NamesObject types.now name result }
 {
     let row = type_named(types, name)?;
-    let def = type_at(types, row);
-    let kind = def.kind;
-    match kind {
+    match type_at(types, row).kind {
         TypeKind::Object => Some(row),
         _ => None,
     }
-}
-
-fn object_if(ok: bool, row: u32, error: FieldError) -> Result<u32, FieldError>
-    ensures { result ≡ cond ok (Ok row) (Err error) }
-{
-    if ok {
-        return Ok(row);
-    }
-    Err(error)
 }
 
 // ResolveAbstractType, for an interface.
@@ -178,7 +147,7 @@ fn implementing(tables: &Tables, ty: u32, name: u32) -> Result<u32, FieldError>
 {
     let object = object_named(tables.types, name).ok_or(FieldError::ObjectTypeUnknown)?;
     let def = type_at(tables.types, ty);
-    object_if(
+    only_if(
         lists_name(tables, object, def.name),
         object,
         FieldError::NotImplementing,
@@ -191,7 +160,7 @@ fn member_of(tables: &Tables, ty: u32, name: u32) -> Result<u32, FieldError>
     ensures { let t = lent tables.now in TypesAt t.types t.members ty kind.Union name result }
 {
     let object = object_named(tables.types, name).ok_or(FieldError::ObjectTypeUnknown)?;
-    object_if(lists_name(tables, ty, name), object, FieldError::NotInUnion)
+    only_if(lists_name(tables, ty, name), object, FieldError::NotInUnion)
 }
 
 fn object_at(tables: &Tables, ty: u32, name: u32) -> Result<u32, FieldError>
@@ -199,11 +168,9 @@ fn object_at(tables: &Tables, ty: u32, name: u32) -> Result<u32, FieldError>
     ensures { let t = lent tables.now in TypesAt t.types t.members ty (type_at t.types ty).kind name result }
 {
     let def = type_at(tables.types, ty);
-    let kind = def.kind;
-    match kind {
-        TypeKind::Scalar => Err(FieldError::ObjectForLeafType),
-        TypeKind::Enum => Err(FieldError::ObjectForLeafType),
-        TypeKind::Object => object_if(name == def.name, ty, FieldError::OtherObjectType),
+    match def.kind {
+        TypeKind::Scalar | TypeKind::Enum => Err(FieldError::ObjectForLeafType),
+        TypeKind::Object => only_if(name == def.name, ty, FieldError::OtherObjectType),
         TypeKind::Interface => implementing(tables, ty, name),
         TypeKind::Union => member_of(tables, ty, name),
         TypeKind::InputObject => Err(FieldError::InputObjectType),

@@ -57,8 +57,7 @@ pub fn is_non_null(type_refs: &[u32], ty: u32) -> bool
     ensures { result ≡ non_null type_refs.now ty }
 {
     match type_ref_at(type_refs, ty) {
-        TypeRef::Named { name: _, nullable } => !nullable,
-        TypeRef::ListOf { inner: _, nullable } => !nullable,
+        TypeRef::Named { nullable, .. } | TypeRef::ListOf { nullable, .. } => !nullable,
         TypeRef::Unknown => false,
     }
 }
@@ -78,15 +77,10 @@ fn is_member(tables: &Tables, rows: Range, string: &[u8]) -> bool
     requires { rows.first + rows.count ≤ most_rows }
     ensures { let t = lent tables.now in result ≡ any (is_named t.pool t.names t.members string.now) (rows_in rows) }
 {
-    let first = rows.first;
-    let count = rows.count;
-    for i in 0..count {
-        let name = member_at(tables.members, first + i);
-        if is_same(name_text(tables.pool, tables.names, name), string) {
-            return true;
-        }
-    }
-    false
+    (rows.first..rows.first + rows.count).any(|row| {
+        let name = member_at(tables.members, row);
+        is_same(name_text(tables.pool, tables.names, name), string)
+    })
 }
 
 // Whether a string is the name of one of an enum's values.

@@ -1,7 +1,7 @@
 // The plan for a group and an object type: found again, or made.
 ghost use Rattle.std.specs.Prelude.{◌≡◌, ◌&&◌, ◌+◌, ◌*◌, ◌%◌, ◌≤◌, ◌<◌, eqb, ltb, length};
 ghost use Rattle.rows.specs.Limits.{most_types};
-ghost use Rattle.planning.specs.Plans.{word_at, most_words, PutHead, Puttable, PutPlan, Lookable, PlansFor, Plannable, Storable, operation_of, beneath_group, PlansAlone};
+ghost use Rattle.planning.specs.Plans.{word_at, most_words, PutHead, Puttable, PutPlan, Lookable, PlansFor, Plannable, Storable, operation_of, beneath_group, PlansAlone, roomy};
 ghost use Rattle.tables.specs.Tables.{lent};
 
 use crate::beneath::{collect_group, collect_operation};
@@ -117,7 +117,7 @@ fn make_plan(
     object: u32,
 ) -> Result<Plan, Outcome>
     requires { let t = lent tables.now in Plannable t.refs t.types t.fields t.sets t.selections t.fragments plans.old top plan group object × (8 * (top + 256) ≤ length plans.old) }
-    ensures { let t = lent tables.now in PlansFor t.refs t.types t.members t.fields t.sets t.selections t.fragments t.nodes t.variables plans.old top plan group object result plans.new }
+    ensures { let t = lent tables.now in PlansFor t.refs t.types t.members t.fields t.sets t.selections t.fragments t.nodes t.variables plans.old top plan group object (roomy result) plans.new }
 {
     let mut list = [0u16; 128];
     let gathered = collect_group(tables, plans, &mut list, object, plan, group)?;

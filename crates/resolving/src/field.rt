@@ -208,14 +208,17 @@ fn resolve_field_value(
     resolve_row(tables, asked, row)
 }
 
-// A field's error stands at its first field.
-fn fail_field(place: u32, error: FieldError) -> Uncoerced
-    ensures { result ≡ Uncoerced.Failed (record { error = error; place = place }) }
+// The resolver's error stands at the first field.
+fn answer_of(place: u32, resolved: Result<Option<Given>, FieldError>) -> Result<Option<Given>, Uncoerced>
+    ensures { result ≡ answered_of place resolved }
 {
-    Uncoerced::Failed(coercion::Failure {
-        error: error,
-        place: place,
-    })
+    match resolved {
+        Ok(given) => Ok(given),
+        Err(error) => Err(Uncoerced::Failed(coercion::Failure {
+            error: error,
+            place: place,
+        })),
+    }
 }
 
 // The arguments of a field, and its answer: what is given, nothing where it is left out; or the field fails, or the run stops.
@@ -230,10 +233,7 @@ fn answer_field(
     ensures { let t = lent tables.now in AnswersField t.refs t.types t.fields t.arguments t.given t.nodes t.literals t.variables t.answers asked rows name result }
 {
     coerce_argument_values(tables, asked.definitions, asked.written)?;
-    match resolve_field_value(tables, asked, rows, name) {
-        Ok(given) => Ok(given),
-        Err(error) => Err(fail_field(asked.place, error)),
-    }
+    answer_of(asked.place, resolve_field_value(tables, asked, rows, name))
 }
 
 // A field that was answered, behind its label.

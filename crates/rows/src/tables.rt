@@ -1,6 +1,4 @@
-// The tables lent, all together.
-
-// Fifteen slices, in the order of document 01, and the number of the root type.
+// The tables lent, all together: fifteen slices and the number of the root type.
 #[derive(Clone, Copy)]
 pub struct Tables<'a> {
     pub pool: &'a [u8],

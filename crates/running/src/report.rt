@@ -9,14 +9,14 @@ use codes::outcome::Outcome;
 use codes::report::Reported;
 use tokens::json::put_null;
 use walking::state::{Done, Failure};
-use writing::place::{clear, clear_words};
+use writing::place::clear;
 
 // A code, and nothing but zeros.
 pub fn refuse(text: &mut [u8], errors: &mut [u32], outcome: Outcome) -> Reported
     ensures { Reports (length text.old) (length errors.old) (refused (code_of outcome)) result text.new errors.new }
 {
     clear(text, 0);
-    clear_words(errors, 0);
+    clear(errors, 0);
     Reported {
         code: outcome.code(),
         bytes: 0,
@@ -52,7 +52,7 @@ fn report(text: &mut [u8], errors: &mut [u32], at: usize, errs: usize) -> Report
         return refuse(text, errors, Outcome::RecordsTooLong);
     }
     clear(text, at);
-    clear_words(errors, errs);
+    clear(errors, errs);
     Reported {
         code: Outcome::Answered.code(),
         bytes: at as u32,

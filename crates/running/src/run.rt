@@ -6,7 +6,7 @@ ghost use Rattle.rows.specs.Answers.{answer_at};
 ghost use Rattle.graphql.specs.Complete.{rows_of_object, execute};
 ghost use Rattle.graphql.specs.Report.{report, report_in_order, Reports};
 ghost use Rattle.walking.specs.Gives.{as_data, Gives};
-ghost use Rattle.running.specs.Running.{refused_with, refusal_of, at_start};
+ghost use Rattle.running.specs.Running.{refusal_of, at_start};
 
 use crate::introspect::introspects;
 use crate::report::{refuse, report_end};
@@ -31,7 +31,7 @@ const HINTS: usize = 1024;
 
 // "1 before 2 before the walk": why a run is refused without a walk, if it is.
 fn refusal(tables: &Tables, choices: usize, text: usize, errors: usize) -> Option<Outcome>
-    ensures { refused_with result ≡ refusal_of (lent tables.now) choices text errors }
+    ensures { result ≡ refusal_of (lent tables.now) choices text errors }
 {
     if table_check(tables) != LAWFUL {
         return Some(Outcome::Unlawful);
@@ -103,7 +103,8 @@ pub fn run_ordered(
 ) -> Reported
     ensures { Reports (length text.old) (length errors.old) (report (record { tables = lent tables.now }) (length text.old) (length errors.old) choices.now) result text.new errors.new }
 {
-    if let Some(outcome) = refusal(tables, choices.len(), text.len(), errors.len()) {
+    let refused = refusal(tables, choices.len(), text.len(), errors.len());
+    if let Some(outcome) = refused {
         return refuse(text, errors, outcome);
     }
     let d = execute_operation(tables, choices, text, errors);

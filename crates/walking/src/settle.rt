@@ -74,7 +74,10 @@ pub fn try_nullify(text: &mut [u8], non_null: bool, d: Done) -> Done
 {
     let state = d.state;
     let what = d.what;
-    let Err(Failure::Here) = what else {
+    let Err(failure) = what else {
+        return d;
+    };
+    let Failure::Here = failure else {
         return d;
     };
     if non_null {
@@ -90,7 +93,10 @@ pub fn past_list(d: Done) -> Done
 {
     let state = d.state;
     let what = d.what;
-    let Err(Failure::PastList) = what else {
+    let Err(failure) = what else {
+        return d;
+    };
+    let Failure::PastList = failure else {
         return d;
     };
     Done {

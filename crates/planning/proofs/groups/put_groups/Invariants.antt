@@ -1,5 +1,5 @@
 -- The groups of the fields passed stand. Assumes nothing.
-use Prim.Native.Nat.{◌-◌, ◌≤◌}
+use Prim.Native.Nat.{◌≤◌}
 use Rattle.planning.specs.Plans.{Grouping}
 use Rattle.planning.proofs.groups.put_groups.Given as goal
 
