@@ -190,8 +190,8 @@ module _ {refs types fields arguments gives nodes literals variables answers : L
   -- what has no value goes on as it is
   pub arguments_lost : {u : Uncoerced} → r ≡ Err u
       → AnswersField refs types fields arguments gives nodes literals variables answers asked rows name (Err u)
-  arguments_lost {uncoerced.Failed f} e = arguments_fail e
-  arguments_lost {uncoerced.Stop o} e = arguments_stop e
+  arguments_lost {u = uncoerced.Failed f} e = arguments_fail e
+  arguments_lost {u = uncoerced.Stop o} e = arguments_stop e
 
   pub arguments_coerced : {v : Resolved} {a : Answered} → Resolvable arguments nodes answers asked → {t : _} → r ≡ Ok t
       → ResolvesField arguments gives literals variables answers asked rows name v → a ≡ answered_of asked.place v

@@ -209,7 +209,10 @@ fn resolve_field_value(
 }
 
 // The resolver's error stands at the first field.
-fn answer_of(place: u32, resolved: Result<Option<Given>, FieldError>) -> Result<Option<Given>, Uncoerced>
+fn answer_of(
+    place: u32,
+    resolved: Result<Option<Given>, FieldError>,
+) -> Result<Option<Given>, Uncoerced>
     ensures { result ≡ answered_of place resolved }
 {
     match resolved {
@@ -259,14 +262,16 @@ fn complete_answered(
         Ok(Some(given)) => complete_value(
             tables, text, errors, path, last, asked, ty, non_null, start, given, s,
         ),
-        Err(Uncoerced::Failed(failure)) => {
-            let error = failure.error;
-            let d = fail(errors, s, Failure::Here, error, failure.place, path, last);
-            Step::Finished(finished(text, non_null, start, d))
-        }
-        Err(Uncoerced::Stop(outcome)) => {
-            Step::Finished(finished(text, non_null, start, stopped(s, outcome)))
-        }
+        Err(lost) => match lost {
+            Uncoerced::Failed(failure) => {
+                let error = failure.error;
+                let d = fail(errors, s, Failure::Here, error, failure.place, path, last);
+                Step::Finished(finished(text, non_null, start, d))
+            }
+            Uncoerced::Stop(outcome) => {
+                Step::Finished(finished(text, non_null, start, stopped(s, outcome)))
+            }
+        },
     }
 }
 
@@ -379,33 +384,29 @@ pub fn complete_item(
         return Step::Finished(stopped(s, Outcome::TooFar));
     }
     let last = index_segment(index);
-    match resolve_row(tables, asked, row) {
-        Ok(None) => Step::Finished(left_out(s)),
-        Err(error) => Step::Finished(fail(
-            errors,
-            s,
-            Failure::PastList,
-            error,
-            asked.place,
-            path,
-            last,
-        )),
-        Ok(Some(value)) => {
-            let start = s.at;
-            let open = moved(s, put(text, start, b','));
-            complete_value(
-                tables,
-                text,
-                errors,
-                path,
-                last,
-                asked,
-                inner,
-                is_non_null(tables.type_refs, inner),
-                start,
-                value,
-                open,
-            )
+    let given = match resolve_row(tables, asked, row) {
+        Ok(given) => given,
+        Err(error) => {
+            let d = fail(errors, s, Failure::PastList, error, asked.place, path, last);
+            return Step::Finished(d);
         }
-    }
+    };
+    let Some(value) = given else {
+        return Step::Finished(left_out(s));
+    };
+    let start = s.at;
+    let open = moved(s, put(text, start, b','));
+    complete_value(
+        tables,
+        text,
+        errors,
+        path,
+        last,
+        asked,
+        inner,
+        is_non_null(tables.type_refs, inner),
+        start,
+        value,
+        open,
+    )
 }
