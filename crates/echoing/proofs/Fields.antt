@@ -21,8 +21,7 @@ use Rattle.graphql.specs.Lookup.{rows_from, rows_in, non_null}
 use Rattle.graphql.specs.Values.{opened, part_by_part}
 use Rattle.graphql.specs.Coerce.{coerce_items, input_field, input_fields, coerce_argument_value}
 use Rattle.input_coercion.specs.Coerced.{given_for, inside}
-use Rattle.values.specs.Put.{Put}
-use Rattle.echoing.specs.Echo.{Shows, Echoes, EchoesFields, field_size, field_label, field_text, field_out, of_part, of_value, of_items, of_field, of_fields}
+use Rattle.echoing.specs.Echo.{Put, Shows, Echoes, EchoesFields, field_size, field_label, field_text, field_out, of_part, of_value, of_items, of_field, of_fields}
 use Rattle.echoing.proofs.Comes.{made, comes_pure, comes_halt, not_failed}
 use Rattle.echoing.proofs.Leaves.{never}
 use Rattle.echoing.proofs.Loop.{largest, outs, behind, Going, going_begin, going_again, container_stopped, container_ended}

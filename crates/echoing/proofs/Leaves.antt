@@ -1,7 +1,7 @@
 -- What is written without a look inside: a literal that converts part by part, a variable, the label of a field. Assumes nothing.
 use mathlib.Core.Path.{◌≡◌, refl, sym, ◌∙◌}
 use mathlib.Core.List.{List, [], ◌∷◌}
-use Rattle.std.specs.Prelude.{Option, Some, None, Ok, Err}
+use Rattle.std.specs.Prelude.{Option, Some, None, Result, Ok, Err}
 use Rattle.std.specs.Result.{result_ok}
 use Prim.Native.Nat.{ℕ, suc}
 use native.Mathlib.Omega.{arith}
@@ -14,18 +14,17 @@ use Rattle.rows.specs.Json.{variable_at}
 use Rattle.rows.specs.declared.schema.Field.{Field}
 use Rattle.rows.specs.declared.json.VariableValue.{VariableValue}
 use Rattle.codes.specs.declared.errors.FieldError.TheVariants as error
-use Rattle.tokens.specs.Escape.{quoted}
 use Rattle.tokens.specs.Literal.{null_name}
 use Rattle.writing.specs.Wrote.{Writes}
-use Rattle.writing.proofs.WritesLaws.{cons, «then»}
 use Rattle.graphql.specs.Run.{Choices, M, pure, halt}
 use Rattle.graphql.specs.Json.{Json, null, print, containers}
 use Rattle.graphql.specs.Lookup.{non_null, variable_named}
 use Rattle.graphql.specs.Values.{variable_value, part_by_part}
 use Rattle.graphql.specs.Coerce.{null_against, coerce_variable}
-use Rattle.values.specs.Put.{Put, ended, Ends, Puts, PutsNode}
+use Rattle.codes.specs.declared.outcome.Outcome.{Outcome}
+use Rattle.values.specs.Put.{label, label_of, ended, Ends, Puts, PutsNode}
 use Rattle.values.specs.Room.{Within}
-use Rattle.values.specs.Literals.{Ending, PutLiteral, ended_as, EndsAs, PutsLiteral}
+use Rattle.values.specs.Literals.{PutsLiteral}
 use Rattle.values.proofs.Room.{node_within, literal_fits}
 use Rattle.echoing.specs.Echo.{Comes, Shown, Shows, Echoes, field_label, of_part, of_variable, EchoesVariable}
 use Rattle.echoing.proofs.Comes.{comes_pure, not_failed}
@@ -42,13 +41,13 @@ null_shown room e w = rw (← e) (record { fits = λ l. record { end = _; is = r
 
 -- ---- a literal
 
-module _ (pool names literals : List ℕ) (room row : ℕ) {text text' : List ℕ} {at : ℕ} {r : PutLiteral}
+module _ (pool names literals : List ℕ) (room row : ℕ) {text text' : List ℕ} {at : ℕ} {r : Result ℕ Outcome}
     (q : PutsLiteral pool names literals room row text at r text') where
   pub literal_shown : Echoes room (of_part pool names literals room row) text at (result_ok r) text'
-  unfolding of_part ended_as pure halt
-  literal_shown = go q.ending q.is q.put
+  unfolding of_part ended pure halt
+  literal_shown = go q.value q.is q.put
     where
-      go : (v : Ending) → ((c : Choices) → part_by_part pool names literals room row c ≡ ended_as v c) → EndsAs v text at r text'
+      go : (v : Result Json Outcome) → ((c : Choices) → part_by_part pool names literals room row c ≡ ended v c) → Ends v text at r text'
           → Echoes room (of_part pool names literals room row) text at (result_ok r) text'
       go (Ok i) is put =
           rw put.is (record {
@@ -70,31 +69,34 @@ module _ (pool names literals : List ℕ) (room row : ℕ) {text text' : List �
 
 -- ---- a node
 
-module _ {m : M Json} {text text' : List ℕ} {at : ℕ} {r : Put} (q : Puts m text at r text') where
+module _ {m : M Json} {text text' : List ℕ} {at : ℕ} {r : Result ℕ Outcome} (q : Puts m text at r text') where
   pub puts_long : length text' ≡ length text
   puts_long = go q.value q.put
     where
-      go : (v : Option Json) → Ends v text at r text' → length text' ≡ length text
-      go None put = put.long
-      go (Some j) put = put.writes.wrote.long
+      go : (v : Result Json Outcome) → Ends v text at r text' → length text' ≡ length text
+      go (Ok j) put = put.writes.wrote.long
+      go (Err o) put = put.long
 
-  pub within_shown : (room : ℕ) (j : Json) → Within room (containers j) j m → Shown room (containers j) (print j) text at r text'
+  pub within_shown : (room : ℕ) (j : Json) → Within room (containers j) j m → Shown room (containers j) (print j) text at (result_ok r) text'
   unfolding ended pure halt
   within_shown room j w = go q.value q.is q.put
     where
-      go : (v : Option Json) → ((c : Choices) → m c ≡ ended v c) → Ends v text at r text' → Shown room (containers j) (print j) text at r text'
-      go None is put = record {
-        fits = λ l. let here = is [] in let there = w.fits l [] in absurd (let z : ◌≡◌ {A = ℕ} 0 1 = cc in omega arith);
-        full = λ l. put.is;
-      }
-      go (Some i) is put = record {
-        fits = λ l.
-            let here = is [] in
-            let there = w.fits l [] in
-            let s : i ≡ j = cc in
-            record { end = put.end; is = put.is; writes = rw s at put.writes };
-        full = λ l. let here = is [] in let there = w.full l [] in absurd (let z : ◌≡◌ {A = ℕ} 0 1 = cc in omega arith);
-      }
+      go : (v : Result Json Outcome) → ((c : Choices) → m c ≡ ended v c) → Ends v text at r text'
+          → Shown room (containers j) (print j) text at (result_ok r) text'
+      go (Ok i) is put =
+          rw put.is (record {
+            fits = λ l.
+                let here = is [] in
+                let there = w.fits l [] in
+                let s : i ≡ j = cc in
+                record { end = put.end; is = refl; writes = rw s at put.writes };
+            full = λ l. let here = is [] in let there = w.full l [] in absurd (let z : ◌≡◌ {A = ℕ} 0 1 = cc in omega arith);
+          })
+      go (Err o) is put =
+          rw put.is (record {
+            fits = λ l. let here = is [] in let there = w.fits l [] in absurd (let z : ◌≡◌ {A = ℕ} 0 1 = cc in omega arith);
+            full = λ l. refl;
+          })
 
 -- ---- a variable
 
@@ -113,8 +115,8 @@ module _ (pool nodes variables : List ℕ) (room name : ℕ) {found : Option ℕ
     };
   }
 
-  pub variable_some : {v : ℕ} {value : VariableValue} {r : Put} → found ≡ Some v → value ≡ variable_at variables v
-      → PutsNode pool nodes room value.node text at r text' → EchoesVariable pool nodes variables room name text at r text'
+  pub variable_some : {v : ℕ} {value : VariableValue} {r : Result ℕ Outcome} → found ≡ Some v → value ≡ variable_at variables v
+      → PutsNode pool nodes room value.node text at r text' → EchoesVariable pool nodes variables room name text at (result_ok r) text'
   unfolding of_variable coerce_variable variable_value
   variable_some {v} h k w = record {
     echoes = λ names refs types fields literals ty row. record {
@@ -131,8 +133,8 @@ pub ruleset variabled = (variable_none, variable_some)
 
 -- ---- the label of a field
 
-pub field_labelled : (pool names fields : List ℕ) (field : ℕ) {t t1 t2 t3 bytes : List ℕ} {a a1 a2 a3 : ℕ} {def : Field} → def ≡ field_at fields field
-    → bytes ≡ name_text pool names def.name → Writes t t1 a a1 (44 ∷ []) → Writes t1 t2 a1 a2 (quoted bytes)
-    → Writes t2 t3 a2 a3 (58 ∷ []) → Writes t t3 a a3 (field_label (name_text pool names (field_at fields field).name))
-unfolding field_label
-field_labelled pool names fields field d b w v u = cons w («then» (rw (b, d) at v) u)
+pub field_labelled : (pool names fields : List ℕ) (field : ℕ) {t t1 bytes : List ℕ} {a a1 : ℕ} {def : Field} → def ≡ field_at fields field
+    → bytes ≡ name_text pool names def.name → Writes t t1 a a1 (label_of (Some bytes))
+    → Writes t t1 a a1 (field_label (name_text pool names (field_at fields field).name))
+unfolding field_label label
+field_labelled pool names fields field d b w = rw (b, d) at w

@@ -15,9 +15,8 @@ use Rattle.writing.proofs.WritesLaws.{length_written, stay, «then», same}
 use Rattle.graphql.specs.Run.{M, pure, in_order, ◌>>=◌}
 use Rattle.graphql.specs.Json.{Json, print, containers}
 use Rattle.graphql.specs.Lookup.{rows_from}
-use Rattle.values.specs.Put.{Put}
 use Rattle.values.proofs.Closing.{closes_exactly}
-use Rattle.echoing.specs.Echo.{Comes, Shown, Shows}
+use Rattle.echoing.specs.Echo.{Put, Comes, Shown, Shows}
 use Rattle.echoing.proofs.Comes.{Made, made, More, comes_none, comes_more, comes_long}
 
 unfoldable pub largest : {A : Type 0} → (size : A → ℕ) → List A → ℕ

@@ -31,8 +31,7 @@ use Rattle.input_coercion.specs.declared.check.Form.TheVariants as form
 use Rattle.input_coercion.specs.contracts.check.Shape.{the_type as shape_type}
 use Rattle.input_coercion.proofs.Walk.{form_shaped, listable, keyed_within, few_declared, other_kinds, other_kind}
 use Rattle.values.specs.Literals.{LiteralsParted}
-use Rattle.values.specs.Put.{Put}
-use Rattle.echoing.specs.Echo.{Comes, Echoes, EchoesVariable, EchoesFields, of_part, of_value, of_variable, of_items, of_named, of_shape, of_fields}
+use Rattle.echoing.specs.Echo.{Put, Comes, Echoes, EchoesVariable, EchoesFields, of_part, of_value, of_variable, of_items, of_named, of_shape, of_fields}
 use Rattle.echoing.proofs.Comes.{comes_pure, comes_failed, not_failed}
 use Rattle.echoing.proofs.Leaves.{never, null_shown}
 use Rattle.echoing.proofs.Fields.{items_full, items_begin, items_again, items_stopped, items_ended, field_given, field_default_lem, field_absent, fields_full, fields_begin, fields_again, fields_stopped, fields_ended}

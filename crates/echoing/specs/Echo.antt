@@ -13,7 +13,6 @@ use Rattle.graphql.specs.Values.{part_by_part}
 use Rattle.graphql.specs.Coerce.{coerce_variable, coerce_items, input_field, input_fields, coerce_named, coerce_shape, coerce_argument_value}
 use Rattle.input_coercion.specs.Coerced.{shape_meant, given_for, inside}
 use Rattle.input_coercion.specs.declared.check.Shape.{Shape}
-use Rattle.values.specs.Put.{Put}
 
 -- ---- A text that was written, if there was room
 
@@ -23,6 +22,10 @@ pub record Comes {A : Type 0} (m : M A) (v : A) : Type 0 where
   pub from : Choices
   pub to : Choices
   pub is : m from ≡ done v log to
+
+-- the position after what was written; none where it was too far, or where there was no value
+abbrev pub Put : Type 0
+Put = Option ℕ
 
 -- the text was written from `at` on, and the position is the one after it
 pub record PutsOut (out : List ℕ) (before : List ℕ) (at : ℕ) (r : Put) (after : List ℕ) : Type 0 where

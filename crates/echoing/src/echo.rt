@@ -26,14 +26,14 @@ use rows::schema::{
     ARGUMENT_WIDTH, TypeKind, TypeRef, argument_at, field_at, type_at, type_ref_at,
 };
 use rows::tables::Tables;
-use tokens::json::{put_null, put_string};
+use tokens::json::put_null;
 use values::literal::put_literal;
-use values::node::put_node;
+use values::node::{put_label, put_node};
 use writing::place::close;
 use writing::write::put;
 
 // Where an argument's value stands: a variable's node, a literal at a type, a default.
-#[derive(Clone, Copy)]
+#[derive(Clone, Copy, PartialEq, Eq, Debug)]
 pub enum Source {
     Node(u32),
     Literal { ty: u32, row: u32 },
@@ -116,10 +116,10 @@ fn put_variable(tables: &Tables, text: &mut [u8], at: usize, room: u32, name: u3
         return Some(put_null(text, at));
     };
     let variable = variable_at(tables.variables, row);
-    put_node(tables, text, at, room, variable.node)
+    put_node(tables, text, at, room, variable.node).ok()
 }
 
-#[cycle(put_coerced_put_input_field_put_input_object_put_items_put_named_put_shaped)]
+#[cycle(coerced)]
 fn put_items(
     tables: &Tables,
     text: &mut [u8],
@@ -152,13 +152,11 @@ fn put_field_label(tables: &Tables, text: &mut [u8], at: usize, field: u32) -> u
         (field_label (name_text t.pool t.names (field_at t.fields field).name)) }
 {
     let def = field_at(tables.fields, field);
-    let key = put(text, at, b',');
-    let colon = put_string(text, key, name_text(tables.pool, tables.names, def.name));
-    put(text, colon, b':')
+    put_label(text, at, Some(name_text(tables.pool, tables.names, def.name)))
 }
 
 // An input field with its comma and its name; nothing where it is left out.
-#[cycle(put_coerced_put_input_field_put_input_object_put_items_put_named_put_shaped)]
+#[cycle(coerced)]
 fn put_input_field(
     tables: &Tables,
     text: &mut [u8],
@@ -188,7 +186,7 @@ fn put_input_field(
     put_checked_literal(tables, text, value, room, constant)
 }
 
-#[cycle(put_coerced_put_input_field_put_input_object_put_items_put_named_put_shaped)]
+#[cycle(coerced)]
 fn put_input_object(
     tables: &Tables,
     text: &mut [u8],
@@ -217,7 +215,7 @@ fn put_input_object(
     Some(close(text, at, next, b'{', b'}'))
 }
 
-#[cycle(put_coerced_put_input_field_put_input_object_put_items_put_named_put_shaped)]
+#[cycle(coerced)]
 fn put_named(
     tables: &Tables,
     text: &mut [u8],
@@ -246,7 +244,7 @@ fn put_named(
     put_input_object(tables, text, at, room, given, declared)
 }
 
-#[cycle(put_coerced_put_input_field_put_input_object_put_items_put_named_put_shaped)]
+#[cycle(coerced)]
 fn put_shaped(
     tables: &Tables,
     text: &mut [u8],
@@ -277,7 +275,7 @@ fn put_shaped(
 }
 
 // A literal (a row) at a type reference (a row).
-#[cycle(put_coerced_put_input_field_put_input_object_put_items_put_named_put_shaped)]
+#[cycle(coerced)]
 pub fn put_coerced(
     tables: &Tables,
     text: &mut [u8],

@@ -1,4 +1,7 @@
 // A literal at a type: whether it can be coerced. `room` is how many containers may still be opened.
+//
+// What is needed of the tables, `Coercible`, is asked in each contract: as a ghost field of a struct over them it would have to be a fact with one
+// proof only, and the value that `Valuable` gives of each variable is none.
 ghost use Rattle.std.specs.Prelude.{◌≡◌, ◌+◌, ◌≤◌};
 ghost use Rattle.rows.specs.Limits.{most_literals, most_fields};
 ghost use Rattle.rows.specs.Schema.{type_at};
@@ -58,7 +61,7 @@ pub fn null_against(tables: &Tables, ty: u32, row: u32) -> bool
 }
 
 // The parts of a list or an object, up to the first that has no value. Their keys do not matter here.
-#[cycle(check_part_by_part_check_parts)]
+#[cycle(convert)]
 fn check_parts(literals: &[u32], room: u32, rows: Range) -> Result<(), Uncoerced>
     requires parted { Parted literals.now }
     requires count_bound { rows.first + rows.count ≤ most_literals }
@@ -76,7 +79,7 @@ fn check_parts(literals: &[u32], room: u32, rows: Range) -> Result<(), Uncoerced
 }
 
 // A literal that converts part by part.
-#[cycle(check_part_by_part_check_parts)]
+#[cycle(convert)]
 pub fn check_part_by_part(literals: &[u32], room: u32, row: u32) -> Result<(), Uncoerced>
     requires { Parted literals.now }
     ensures { Checks (of_part literals.now room row) result }
@@ -151,7 +154,7 @@ pub fn items_of(row: u32, shape: Shape) -> Range
 }
 
 // The items of a list at the type of an item.
-#[cycle(coerce_argument_value_coerce_items_coerce_named_coerce_shape_input_field_input_fields_input_object)]
+#[cycle(coerce)]
 fn coerce_items(tables: &Tables, room: u32, inner: u32, rows: Range) -> Result<(), Uncoerced>
     requires coercible { let t = lent tables.now in Coercible t.types t.nodes t.literals t.variables }
     requires count_bound { rows.first + rows.count ≤ 4294967296 }
@@ -178,7 +181,7 @@ pub fn given_for(tables: &Tables, given: Range, field: u32) -> Option<u32>
 }
 
 // An input field: as it is given, by its default, or missing. `row` is the whole object literal, and `room` is what is left inside it.
-#[cycle(coerce_argument_value_coerce_items_coerce_named_coerce_shape_input_field_input_fields_input_object)]
+#[cycle(coerce)]
 fn input_field(
     tables: &Tables,
     room: u32,
@@ -207,7 +210,7 @@ fn input_field(
 }
 
 // The fields of an input object type, in the type's order.
-#[cycle(coerce_argument_value_coerce_items_coerce_named_coerce_shape_input_field_input_fields_input_object)]
+#[cycle(coerce)]
 fn input_fields(
     tables: &Tables,
     room: u32,
@@ -249,7 +252,7 @@ fn has_unknown_key(tables: &Tables, ty: u32, given: Range) -> bool
 }
 
 // An object literal at an input object type. An unknown key is found before anything about the values.
-#[cycle(coerce_argument_value_coerce_items_coerce_named_coerce_shape_input_field_input_fields_input_object)]
+#[cycle(coerce)]
 fn input_object(
     tables: &Tables,
     room: u32,
@@ -271,7 +274,7 @@ fn input_object(
 }
 
 // At a type that is no input object a literal converts part by part.
-#[cycle(coerce_argument_value_coerce_items_coerce_named_coerce_shape_input_field_input_fields_input_object)]
+#[cycle(coerce)]
 fn coerce_named(
     tables: &Tables,
     room: u32,
@@ -292,7 +295,7 @@ fn coerce_named(
     input_object(tables, room, ty, row, shape)
 }
 
-#[cycle(coerce_argument_value_coerce_items_coerce_named_coerce_shape_input_field_input_fields_input_object)]
+#[cycle(coerce)]
 fn coerce_shape(
     tables: &Tables,
     room: u32,
@@ -305,19 +308,14 @@ fn coerce_shape(
     ensures { let t = lent tables.now in Checks (of_shape t.refs t.types t.fields t.nodes t.literals t.variables room ty row shape) result }
 {
     match type_ref_at(tables.type_refs, ty) {
-        TypeRef::Named { name, nullable: _ } => coerce_named(tables, room, row, shape, name),
-        TypeRef::ListOf { inner, nullable: _ } => coerce_items(
-            tables,
-            room,
-            inner,
-            items_of(row, shape),
-        ),
+        TypeRef::Named { name, .. } => coerce_named(tables, room, row, shape, name),
+        TypeRef::ListOf { inner, .. } => coerce_items(tables, room, inner, items_of(row, shape)),
         TypeRef::Unknown => fail_at(tables.literals, FieldError::UndefinedInputType, row),
     }
 }
 
 // A literal (a row) at a type reference (a row).
-#[cycle(coerce_argument_value_coerce_items_coerce_named_coerce_shape_input_field_input_fields_input_object)]
+#[cycle(coerce)]
 pub fn coerce_argument_value(tables: &Tables, room: u32, ty: u32, row: u32) -> Result<(), Uncoerced>
     requires { let t = lent tables.now in Coercible t.types t.nodes t.literals t.variables }
     ensures { let t = lent tables.now in Checks (of_value t.refs t.types t.fields t.nodes t.literals t.variables room ty row) result }

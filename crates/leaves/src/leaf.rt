@@ -7,11 +7,11 @@ ghost use Rattle.input_coercion.specs.Coerced.{Coercible};
 ghost use Rattle.values.specs.Plain.{plain_value, said};
 ghost use Rattle.values.specs.Literals.{plain_literal};
 ghost use Rattle.values.specs.Put.{Parted};
-ghost use Rattle.leaves.specs.Leaves.{PutsLeaf, SortsLeaf, SpellsLeaf};
+ghost use Rattle.leaves.specs.Leaves.{leaf_of, PutsLeaf, SortsLeaf, SpellsLeaf};
 ghost use Rattle.leaves.specs.Literals.{is_container, coerced_sort, bytes_of};
 ghost use Rattle.tables.specs.Tables.{lent};
 
-use echoing::echo::{put_checked_literal, put_coerced};
+use echoing::echo::{Source, put_checked_literal, put_coerced};
 use input_coercion::arguments::MOST_OPEN;
 use input_coercion::check::{Form, literal_form};
 use lookup::named::type_named;
@@ -25,12 +25,25 @@ use values::node::put_node;
 use values::sort::{Sort, literal_sort, sort_of};
 
 // An answer's node; a name, for `__typename`; an argument that is echoed: a literal at a type, or a default.
-#[derive(Clone, Copy)]
+#[derive(Clone, Copy, PartialEq, Eq, Debug)]
 pub enum Leaf {
     Node(u32),
     Name(u32),
     Literal { ty: u32, row: u32 },
     Default(u32),
+}
+
+// An argument that is echoed is a leaf, wherever its value stands.
+impl From<Source> for Leaf {
+    ghost from_gives = { λ source leaf. leaf ≡ leaf_of source };
+
+    fn from(source: Source) -> Leaf {
+        match source {
+            Source::Node(row) => Leaf::Node(row),
+            Source::Literal { ty, row } => Leaf::Literal { ty, row },
+            Source::Default(row) => Leaf::Default(row),
+        }
+    }
 }
 
 // Whether a literal that is no null becomes a container at a type: it is wrapped there, or is an input object.
@@ -78,7 +91,7 @@ fn literal_string<'a>(tables: &Tables<'a>, row: u32) -> &'a [u8]
     match literal_at(tables.literals, row) {
         Literal::String(string) => text_of(tables.pool, string),
         Literal::Enum(name) => name_text(tables.pool, tables.names, name),
-        _ => &tables.pool[0..0],
+        _ => &[],
     }
 }
 
@@ -87,7 +100,7 @@ fn node_string<'a>(tables: &Tables<'a>, row: u32) -> &'a [u8]
 {
     match node_at(tables.nodes, row) {
         Node::String(string) => text_of(tables.pool, string),
-        _ => &tables.pool[0..0],
+        _ => &[],
     }
 }
 
@@ -98,8 +111,7 @@ pub fn leaf_string<'a>(tables: &Tables<'a>, leaf: Leaf) -> &'a [u8]
     match leaf {
         Leaf::Node(row) => node_string(tables, row),
         Leaf::Name(name) => name_text(tables.pool, tables.names, name),
-        Leaf::Literal { ty: _, row } => literal_string(tables, row),
-        Leaf::Default(row) => literal_string(tables, row),
+        Leaf::Literal { ty: _, row } | Leaf::Default(row) => literal_string(tables, row),
     }
 }
 
@@ -110,7 +122,7 @@ pub fn put_leaf(tables: &Tables, text: &mut [u8], at: usize, leaf: Leaf) -> Opti
     ensures { let t = lent tables.now in PutsLeaf t.pool t.names t.refs t.types t.fields t.nodes t.literals t.variables leaf text.old at result text.new }
 {
     match leaf {
-        Leaf::Node(row) => put_node(tables, text, at, MOST_OPEN, row),
+        Leaf::Node(row) => put_node(tables, text, at, MOST_OPEN, row).ok(),
         Leaf::Name(name) => Some(put_string(text, at, name_text(tables.pool, tables.names, name))),
         Leaf::Literal { ty, row } => put_coerced(tables, text, at, MOST_OPEN, ty, row),
         Leaf::Default(row) => put_checked_literal(tables, text, at, MOST_OPEN, row),

@@ -1,20 +1,21 @@
 // A literal converted part by part, as text: "enum names to strings". `room` is how many containers may still be opened.
 ghost use Rattle.std.specs.Prelude.{◌≡◌, ◌+◌, ◌≤◌};
+ghost use Rattle.std.specs.Option.{option_copied};
 ghost use Rattle.rows.specs.Limits.{most_literals};
 ghost use Rattle.writing.specs.Wrote.{Writes};
 ghost use Rattle.graphql.specs.Json.{print};
-ghost use Rattle.values.specs.Put.{label};
+ghost use Rattle.values.specs.Put.{key_of};
 ghost use Rattle.values.specs.Literals.{plain_literal, literal_key_text, LiteralsParted, PutsParts, PutsLiteral};
 ghost use Rattle.tables.specs.Tables.{lent};
 
-use crate::node::{Parts, put_brackets};
+use crate::node::{Parts, put_brackets, put_label};
 use codes::outcome::Outcome;
 use rows::json::{Literal, literal_at, literal_key};
 use rows::names::name_text;
 use rows::strings::text_of;
 use rows::tables::Tables;
 use tokens::json::{put_false, put_natural, put_negative, put_null, put_string, put_true};
-use writing::write::{put, put_all};
+use writing::write::put_all;
 
 // A literal that is no container and no variable.
 fn put_plain_literal(tables: &Tables, text: &mut [u8], at: usize, literal: Literal) -> usize
@@ -32,25 +33,19 @@ fn put_plain_literal(tables: &Tables, text: &mut [u8], at: usize, literal: Liter
     }
 }
 
-// What stands before the value of a part: a comma; in an object its key and a colon too.
-fn put_literal_label(tables: &Tables, text: &mut [u8], at: usize, keyed: bool, row: u32) -> usize
-    ensures { let t = lent tables.now in Writes text.old text.new at result
-        (label keyed (literal_key_text t.pool t.names t.literals row)) }
+// The key of a part of an object; a part of a list has none.
+fn part_key<'a>(tables: &Tables<'a>, keyed: bool, row: u32) -> Option<&'a [u8]>
+    ensures { let t = lent tables.now in option_copied result ≡ key_of keyed (literal_key_text t.pool t.names t.literals row) }
 {
-    let next = put(text, at, b',');
     if keyed {
-        let end = put_string(
-            text,
-            next,
-            name_text(tables.pool, tables.names, literal_key(tables.literals, row)),
-        );
-        return put(text, end, b':');
+        return Some(name_text(tables.pool, tables.names, literal_key(tables.literals, row)));
     }
-    next
+    None
 }
 
 // The position after the text; or a container more would be open than there is room for, or a variable was reached.
-#[cycle(put_literal_put_parts)]
+// The loop is that of `put_container`: a trait over both would need a key, a value and the laws of each, which is more than it saves.
+#[cycle(literals)]
 fn put_parts(
     tables: &Tables,
     text: &mut [u8],
@@ -73,14 +68,14 @@ fn put_parts(
     let mut next = at;
     for i in 0..count {
         let row = first + i;
-        let value = put_literal_label(tables, text, next, keyed, row);
+        let value = put_label(text, next, part_key(tables, keyed, row));
         next = put_literal(tables, text, value, room - 1, row)?;
     }
     Ok(put_brackets(text, at, next, keyed))
 }
 
 // What was written before it was given up is nobody's.
-#[cycle(put_literal_put_parts)]
+#[cycle(literals)]
 pub fn put_literal(
     tables: &Tables,
     text: &mut [u8],
@@ -95,17 +90,11 @@ pub fn put_literal(
     let literal = literal_at(tables.literals, row);
     match literal {
         Literal::List(rows) => {
-            let parts = Parts {
-                keyed: false,
-                rows: rows,
-            };
+            let parts = Parts { keyed: false, rows };
             put_parts(tables, text, at, room, parts)
         }
         Literal::Object(rows) => {
-            let parts = Parts {
-                keyed: true,
-                rows: rows,
-            };
+            let parts = Parts { keyed: true, rows };
             put_parts(tables, text, at, room, parts)
         }
         Literal::Variable(_) => Err(Outcome::VariableInLiteral),

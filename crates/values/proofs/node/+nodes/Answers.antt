@@ -2,9 +2,9 @@
 use mathlib.Core.Path.{◌≡◌}
 use borrow.Author.Rules.{rules}
 use native.Mathlib.Omega.{arith}
-use Rattle.std.specs.Prelude.{None}
+use Rattle.std.specs.Prelude.{Err}
 use Rattle.values.proofs.Walk.{walking}
-use Rattle.values.proofs.node.+put_container_put_node.Goals as goal
+use Rattle.values.proofs.node.+nodes.Goals as goal
 
 ruleset walk = (walking, rules)
 
@@ -16,12 +16,9 @@ put_container-loop-i-init t c = search walk
 
 pub put_container-returns-in_err-next : goal.put_container-returns-in_err-next
 put_container-returns-in_err-next t c =
-    let gone : c.from_residual.result ≡ None = grind arith in
-    let far : c.put_node.result ≡ None = c.in_err-next.was in
+    let gone : c.from_residual.result ≡ Err c.in_err-next.field-0.0 = grind arith in
+    let stopped : c.put_node.result ≡ Err c.in_err-next.field-0.0 = c.in_err-next.was in
     rw gone (search walk)
-
-pub put_container-loop-i-smaller : goal.put_container-loop-i-smaller
-put_container-loop-i-smaller t c = search walk
 
 pub put_container-loop-i-preserved : goal.put_container-loop-i-preserved
 put_container-loop-i-preserved t c = search walk

@@ -3,12 +3,8 @@ use mathlib.Core.Path.{◌≡◌}
 use borrow.Author.Rules.{rules}
 use Rattle.std.specs.Prelude.{None, Some}
 use Rattle.echoing.proofs.Fields.{items_again}
-use Rattle.input_coercion.proofs.Walk.{form_shaped, listable, keyed_within, few_declared}
 use Rattle.echoing.proofs.Walk.{literals_parted_lem, valuing, shaping, naming, itemizing, fielding, opening}
-use Rattle.echoing.proofs.echo.+put_coerced_put_input_field_put_input_object_put_items_put_named_put_shaped.Goals as goal
-
-pub put_coerced-put_shaped-requires : goal.put_coerced-put_shaped-requires
-put_coerced-put_shaped-requires t c = (search rules, (search rules, (search rules, search (form_shaped, rules))))
+use Rattle.echoing.proofs.echo.+coerced.Goals as goal
 
 pub put_coerced-returns-in-Null : goal.put_coerced-returns-in-Null
 put_coerced-returns-in-Null t c = search (valuing, rules)
@@ -18,9 +14,6 @@ put_coerced-returns-in-Variable t c = search (valuing, rules)
 
 pub put_coerced-returns-in-Shaped : goal.put_coerced-returns-in-Shaped
 put_coerced-returns-in-Shaped t c = search (valuing, rules)
-
-pub put_input_field-put_coerced-requires : goal.put_input_field-put_coerced-requires
-put_input_field-put_coerced-requires t c = (search (rules, c.decreases), (c.requires.coercible, c.requires.parted))
 
 pub put_input_field-returns-in-Some : goal.put_input_field-returns-in-Some
 put_input_field-returns-in-Some t c = search (fielding, rules)
@@ -40,9 +33,6 @@ put_input_object-returns-then-room-eq0 t c = search (opening, rules)
 pub put_input_object-loop-i-init : goal.put_input_object-loop-i-init
 put_input_object-loop-i-init t c = search (opening, rules)
 
-pub put_input_object-put_input_field-requires : goal.put_input_object-put_input_field-requires
-put_input_object-put_input_field-requires t c = (search (rules, c.decreases), (c.requires.coercible, (c.requires.parted, c.requires.count_bound)))
-
 pub put_input_object-loop-i-preserved : goal.put_input_object-loop-i-preserved
 put_input_object-loop-i-preserved t c =
     let there : c.put_input_field.result ≡ Some c.in_ok-next.next = c.in_ok-next.was in
@@ -56,9 +46,6 @@ put_items-returns-then-room-eq0 t c = search (itemizing, rules)
 
 pub put_items-loop-i-init : goal.put_items-loop-i-init
 put_items-loop-i-init t c = search (itemizing, rules)
-
-pub put_items-put_coerced-requires : goal.put_items-put_coerced-requires
-put_items-put_coerced-requires t c = (search (rules, c.decreases), (c.requires.coercible, c.requires.parted))
 
 pub put_items-loop-i-preserved : goal.put_items-loop-i-preserved
 put_items-loop-i-preserved t c = items_again _ _ _ _ _ _ _ _ _ _ _
@@ -79,20 +66,8 @@ put_named-returns-in_default t c = let found : c.type_named.result ≡ Some c.in
 pub put_named-returns-in_default-shape : goal.put_named-returns-in_default-shape
 put_named-returns-in_default-shape t c = let found : c.type_named.result ≡ Some c.in_ok-ty.ty = c.in_ok-ty.was in search (naming, rules)
 
-pub put_named-put_input_object-requires : goal.put_named-put_input_object-requires
-put_named-put_input_object-requires t c = (search (rules, c.decreases), (c.requires.coercible, (c.requires.parted, (search (keyed_within, c.requires.coercible, c.requires.form_at), search (few_declared, c.requires.coercible)))))
-
 pub put_named-returns : goal.put_named-returns
 put_named-returns t c = let found : c.type_named.result ≡ Some c.in_ok-ty.ty = c.in_ok-ty.was in search (naming, rules)
-
-pub put_shaped-put_named-requires : goal.put_shaped-put_named-requires
-put_shaped-put_named-requires t c = (search (rules, c.decreases), (c.requires.coercible, (c.requires.parted, c.requires.form_at)))
-
-pub put_shaped-items_of-requires : goal.put_shaped-items_of-requires
-put_shaped-items_of-requires t c = search (listable, c.requires.coercible, c.requires.form_at)
-
-pub put_shaped-put_items-requires : goal.put_shaped-put_items-requires
-put_shaped-put_items-requires t c = (search (rules, c.decreases), (c.requires.coercible, (c.requires.parted, search rules)))
 
 pub put_shaped-returns-in-Named : goal.put_shaped-returns-in-Named
 put_shaped-returns-in-Named t c = search (shaping, rules)

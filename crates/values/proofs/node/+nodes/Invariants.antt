@@ -3,7 +3,7 @@ use Prim.Native.Nat.{◌+◌, ◌*◌, ◌-◌}
 use Rattle.graphql.specs.Values.{node_value}
 use Rattle.values.specs.Put.{key_text}
 use Rattle.values.proofs.Going.{Going}
-use Rattle.values.proofs.node.+put_container_put_node.Given as goal
+use Rattle.values.proofs.node.+nodes.Given as goal
 
 abbrev pub decreases-put_container : goal.decreases-put_container
 decreases-put_container l = l.room * 2

@@ -2,7 +2,7 @@
 use Prim.Native.Nat.{◌+◌, ◌*◌, ◌-◌}
 use Rattle.input_coercion.specs.Coerced.{of_part}
 use Rattle.input_coercion.proofs.Going.{Going}
-use Rattle.input_coercion.proofs.check.+check_part_by_part_check_parts.Given as goal
+use Rattle.input_coercion.proofs.check.+convert.Given as goal
 
 abbrev pub decreases-check_part_by_part : goal.decreases-check_part_by_part
 decreases-check_part_by_part l = l.room * 2 + 1

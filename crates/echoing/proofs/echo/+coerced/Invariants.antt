@@ -5,7 +5,7 @@ use Rattle.graphql.specs.Lookup.{rows_in}
 use Rattle.echoing.specs.Echo.{field_size, field_out, of_value, of_field}
 use Rattle.echoing.proofs.Loop.{Going}
 use Rattle.echoing.proofs.Fields.{item_out}
-use Rattle.echoing.proofs.echo.+put_coerced_put_input_field_put_input_object_put_items_put_named_put_shaped.Given as goal
+use Rattle.echoing.proofs.echo.+coerced.Given as goal
 
 abbrev pub decreases-put_coerced : goal.decreases-put_coerced
 decreases-put_coerced l = l.room * 8 + 7

@@ -4,7 +4,7 @@ use borrow.Author.Rules.{rules}
 use native.Mathlib.Omega.{arith}
 use Rattle.std.specs.Prelude.{Err}
 use Rattle.values.proofs.Literals.{walking}
-use Rattle.values.proofs.literal.+put_literal_put_parts.Goals as goal
+use Rattle.values.proofs.literal.+literals.Goals as goal
 
 ruleset walk = (walking, rules)
 
@@ -31,9 +31,6 @@ put_parts-returns-in_err-next t c =
     let gone : c.from_residual.result ≡ Err c.in_err-next.field-0.0 = grind arith in
     let stopped : c.put_literal.result ≡ Err c.in_err-next.field-0.0 = c.in_err-next.was in
     rw gone (search walk)
-
-pub put_parts-loop-i-smaller : goal.put_parts-loop-i-smaller
-put_parts-loop-i-smaller t c = search walk
 
 pub put_parts-loop-i-preserved : goal.put_parts-loop-i-preserved
 put_parts-loop-i-preserved t c = search walk

@@ -2,7 +2,7 @@
 use borrow.Author.Rules.{rules}
 use Rattle.std.proofs.lemmas.Result.{err_from_is_err_and}
 use Rattle.input_coercion.proofs.Walk.{valuing, itemizing, naming, shaping, fielding, opening, objecting}
-use Rattle.input_coercion.proofs.check.+coerce_argument_value_coerce_items_coerce_named_coerce_shape_input_field_input_fields_input_object.Goals as goal
+use Rattle.input_coercion.proofs.check.+coerce.Goals as goal
 
 pub coerce_argument_value-returns-then-is_non_null : goal.coerce_argument_value-returns-then-is_non_null
 coerce_argument_value-returns-then-is_non_null t c = search valuing

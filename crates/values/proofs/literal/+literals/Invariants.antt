@@ -3,7 +3,7 @@ use Prim.Native.Nat.{◌+◌, ◌*◌, ◌-◌}
 use Rattle.graphql.specs.Values.{part_by_part}
 use Rattle.values.specs.Literals.{literal_key_text}
 use Rattle.values.proofs.Going.{Going}
-use Rattle.values.proofs.literal.+put_literal_put_parts.Given as goal
+use Rattle.values.proofs.literal.+literals.Given as goal
 
 abbrev pub decreases-put_literal : goal.decreases-put_literal
 decreases-put_literal l = l.room * 2 + 1

@@ -3,7 +3,7 @@ use Prim.Native.Nat.{◌+◌, ◌*◌, ◌-◌}
 use Rattle.graphql.specs.Lookup.{rows_in}
 use Rattle.input_coercion.specs.Coerced.{of_value, of_field}
 use Rattle.input_coercion.proofs.Going.{Going}
-use Rattle.input_coercion.proofs.check.+coerce_argument_value_coerce_items_coerce_named_coerce_shape_input_field_input_fields_input_object.Given as goal
+use Rattle.input_coercion.proofs.check.+coerce.Given as goal
 
 abbrev pub decreases-coerce_argument_value : goal.decreases-coerce_argument_value
 decreases-coerce_argument_value l = l.room * 8 + 7

@@ -2,7 +2,7 @@
 use borrow.Author.Rules.{rules}
 use Rattle.std.proofs.lemmas.Result.{err_from_is_err_and}
 use Rattle.input_coercion.proofs.Parts.{parting}
-use Rattle.input_coercion.proofs.check.+check_part_by_part_check_parts.Goals as goal
+use Rattle.input_coercion.proofs.check.+convert.Goals as goal
 
 ruleset walk = (parting, rules)
 
