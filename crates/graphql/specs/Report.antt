@@ -2,7 +2,7 @@
 -- Complete.
 use Rattle.std.specs.Prelude.{◌≡◌, Bool, false, cond, ◌&&◌, ◌||◌, ℕ, ◌-◌, length, replicate, leb, eqb}
 use mathlib.Core.List.{List, [], ◌∷◌, ◌++◌, filter_map}
-use Rattle.std.specs.Prelude.{Option, Some, None}
+use Rattle.std.proofs.Math.Option.{Option, none, some}
 use Rattle.rows.specs.Layout.{selection_width}
 use Rattle.rows.specs.Rows.{rows_of}
 use Rattle.rows.specs.Document.{selection_at}
@@ -22,9 +22,9 @@ use Rattle.graphql.specs.Complete.{execute}
 -- ---- The error records of a run
 
 unfoldable pub record_of : Event → Option ErrorRecord
-record_of (err r) = Some r
-record_of (given_up path) = None
-record_of (skipped path) = None
+record_of (err r) = some r
+record_of (given_up path) = none
+record_of (skipped path) = none
 
 -- in the order in which they are written
 unfoldable pub records_of : Log → List ErrorRecord
