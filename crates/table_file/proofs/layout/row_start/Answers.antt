@@ -1,6 +1,6 @@
 -- No row is so wide that its start would wrap. Assumes nothing.
 use native.Mathlib.Omega.{arith}
-use Rattle.table_file.proofs.Held.{row_fits}
+use Rattle.table_file.proofs.Amounts.{row_fits}
 use Rattle.table_file.proofs.layout.row_start.Goals as goal
 
 pub overflow_mul-result : goal.overflow_mul-result

@@ -6,6 +6,7 @@ use native.Mathlib.Nat.{mul-le-mul}
 use native.Mathlib.Omega.{arith}
 use lib.ListN.{length, get_or, set, replicate, length-take}
 use lib.Seq.{get_or-set_other, take_all}
+use Rattle.std.specs.Prelude.{Option, Some, None, IfSome}
 use Rattle.rows.specs.Layout.{name_width}
 use Rattle.rows.specs.Rows.{rows_of}
 use Rattle.table_file.specs.Sizes.{Within, widths, width_of}
@@ -59,9 +60,11 @@ table_short words sizes k w h = simp length-take (omega (arith, w.tables k h))
 
 -- a row among the names is a small number
 pub few_names :
-    (words sizes names : List ℕ) (row : ℕ) → Within sizes → names ≡ table_of words sizes 1 → row ≤ rows_of names name_width → row ≤ 10320
+    (words sizes names : List ℕ) (found : Option ℕ) → Within sizes → names ≡ table_of words sizes 1 → IfSome found (λ row. row < rows_of names name_width)
+    → IfSome found (λ row. row ≤ 10320)
 unfolding rows_of
-few_names words sizes names row w e h =
+few_names words sizes names None w e h = h
+few_names words sizes names (Some row) w e h =
     let l : length names ≤ 20640 = rw e (table_short words sizes 1 w (omega arith)) in
     omega arith
 
