@@ -1,16 +1,11 @@
--- The rows passed have other words; the first that has this one ends the search. Assumes nothing.
+-- The library's search goes through the same rows. Assumes nothing.
 use borrow.Author.Rules.{rules}
-use Rattle.lookup.proofs.Searching.{seeking}
+use borrow.Author.Tests.{tests}
+use Rattle.lookup.specs.Found.{has_word}
+use Rattle.lookup.proofs.Searching.{find_in_range}
 use Rattle.lookup.proofs.find.find_word.Goals as goal
 
-pub loop-i-init : goal.loop-i-init
-loop-i-init c = search seeking
-
-pub returns-then-cell-word : goal.returns-then-cell-word
-returns-then-cell-word c = search (seeking, rules)
-
-pub loop-i-preserved : goal.loop-i-preserved
-loop-i-preserved c = search (seeking, rules)
-
 pub returns : goal.returns
-returns c = search (seeking, rules)
+returns c =
+    find_in_range (has_word c.args.t.now c.args.width c.args.column c.args.word) c.args.rows _ c.find.ensures.ran
+    (λ row b h k. search (rules, tests))

@@ -9,4 +9,4 @@ use Rattle.rulebook.proofs.broken.first_broken.Given as goal
 
 abbrev pub invariant-loop-row : goal.invariant-loop-row
 invariant-loop-row l = (l.row ≤ l.rows)
-    × (all (holds_at l.rule (tables l.pool l.names l.type_refs l.types l.members l.fields l.arguments l.sets l.selections l.given l.fragments l.nodes l.literals l.variables l.answers l.root)) l.row ≡ true)
+    × (all (holds_at l.rule (tables l.tables.pool.now l.tables.names.now l.tables.type_refs.now l.tables.types.now l.tables.members.now l.tables.fields.now l.tables.arguments.now l.tables.sets.now l.tables.selections.now l.tables.given.now l.tables.fragments.now l.tables.nodes.now l.tables.literals.now l.tables.variables.now l.tables.answers.now l.root)) l.row ≡ true)
