@@ -1,30 +1,33 @@
 -- A search through rows: how far it went, what it found, and where that lies. Assumes nothing.
-use mathlib.Core.Path.{◌≡◌, refl, sym, ◌∙◌}
+use mathlib.Core.Path.{◌≡◌, refl, ◌∙◌}
 use mathlib.Core.Bool.{Bool, true, false, cond, ◌||◌}
 use mathlib.Core.List.{List, [], ◌∷◌}
 use Rattle.std.specs.Prelude.{Option, Some, None, is_some}
 use Prim.Native.Nat.{ℕ, zero, suc, ◌+◌, ◌-◌, ◌≤◌, ◌<◌}
 use native.Mathlib.Nat.{sub-zero, add-zero}
 use native.Mathlib.Omega.{arith}
+use borrow.Author.Tests.{eq-eqb, ne_eqb}
 use denote.Param.Members.{Mut}
-use denote.Ref.{Bor}
-use Rattle.std.specs.Fn.{Called, CalledAt}
-use Rattle.std.specs.Iterator.{FindsItem, ChecksAny}
+use Rattle.rows.specs.Rows.{cell}
+use Rattle.std.specs.Fn.{Called}
+use Rattle.std.specs.Iterator.{ChecksAny}
 use Rattle.std.specs.List.{list_any, range_with_len}
-use Rattle.std.specs.List.{find as list_find}
 use Rattle.std.proofs.iter.Yields.{nat_range_steps}
 use Rattle.std.proofs.lemmas.Iterator.{YieldsList-from_range}
-use Rattle.std.proofs.lemmas.Iterator.Search.{find_from_yields_List, any_from_yields_List}
-use Rattle.std.proofs.lemmas.Iterator.Adapters.{option_map_id}
+use Rattle.std.proofs.lemmas.Iterator.Search.{any_from_yields_List}
 use Rattle.std.specs.declared.ops.Range.{Range as Span}
 use Rattle.rows.specs.declared.layout.Range.{Range}
 use Rattle.graphql.specs.Lookup.{rows_from, rows_in, find, any}
+use Rattle.lookup.specs.Found.{has_word}
 
 module _ (test : ℕ → Bool) where
   -- the row that comes next does not pass
   find_next : (row n : ℕ) → test row ≡ false → find test (rows_from row (suc n)) ≡ find test (rows_from (suc row) n)
   unfolding find rows_from
   find_next row n e = rw e
+
+  find_past : (row n : ℕ) {m : ℕ} → m ≡ suc n → test row ≡ false → find test (rows_from row m) ≡ find test (rows_from (row + 1) n)
+  find_past row n e t = let on : row + 1 ≡ suc row = omega arith in rw (e, on) (find_next row n t)
 
   -- or it does
   find_here : (row n : ℕ) → test row ≡ true → find test (rows_from row (suc n)) ≡ Some row
@@ -62,26 +65,43 @@ module _ (test : ℕ → Bool) where
       go true h = refl
       go false h = h
 
--- ---- the library's searches through a range
+-- ---- the search for a word: what is left of the rows, from this one on
+
+module _ (t : List ℕ) (width column word : ℕ) (rows : Range) where
+  abbrev passes' : ℕ → Bool
+  passes' = has_word t width column word
+
+  pub record Left (row : ℕ) : Type 0 where
+    pub sought : find passes' (rows_in rows) ≡ find passes' (rows_from row (rows.first + rows.count - row))
+
+  pub left_begin : Left rows.first
+  unfolding rows_in
+  left_begin = record { sought = let e : rows.first + rows.count - rows.first ≡ rows.count = omega arith in rw e }
+
+  module _ {row got : ℕ} (s : Left row) (l : row < rows.first + rows.count) (e : got ≡ cell t width row column) where
+    others : rows.first + rows.count - row ≡ suc (rows.first + rows.count - (row + 1))
+    others = omega arith
+
+    pub left_next : (got ≡ word → ⊥) → Left (row + 1)
+    left_next d =
+        record { sought = s.sought ∙ find_past passes' row (rows.first + rows.count - (row + 1)) others (ne_eqb _ _ (rw e at d)) }
+
+    pub left_found : got ≡ word → Some row ≡ find passes' (rows_in rows)
+    left_found d = rw (s.sought, others, find_here passes' row (rows.first + rows.count - (row + 1)) (eq-eqb _ _ (rw e at d)))
+
+  pub left_none : {row : ℕ} → Left row → rows.first + rows.count ≤ row → None ≡ find passes' (rows_in rows)
+  unfolding find rows_from
+  left_none {row} s l = let z : rows.first + rows.count - row ≡ 0 = omega arith in rw (s.sought, z)
+
+pub ruleset seeking = (left_begin, left_next, left_found, left_none)
+
+-- ---- the library's search through a range
 
 module _ (test : ℕ → Bool) where
-  find_same : (first n : ℕ) → list_find test (range_with_len first n) ≡ find test (rows_from first n)
-  unfolding find rows_from
-  find_same first zero = refl
-  find_same first (suc n) = let e : first + 1 ≡ suc first = omega arith in rw (e, find_same (suc first) n)
-
   any_same : (first n : ℕ) → list_any test (range_with_len first n) ≡ any test (rows_from first n)
   unfolding any rows_from
   any_same first zero = refl
   any_same first (suc n) = let e : first + 1 ≡ suc first = omega arith in rw (e, any_same (suc first) n)
-
-  pub find_in_range : (rows : Range) {F : Type 0} {g : Mut F (Bor ℕ × Unit {0}) Bool} {f : F} {r : Option ℕ} (u : Span ℕ)
-      → FindsItem nat_range_steps g (record { start = rows.first; end = rows.first + rows.count }) f r u
-      → ((row : ℕ) (b : Bool) (h : F) → CalledAt g f row b h → (h ≡ f) × (b ≡ test row)) → r ≡ find test (rows_in rows)
-  unfolding rows_in
-  find_in_range rows {f = f'} {r = r'} u ran agrees =
-      sym (option_map_id _) ∙ find_from_yields_List test u f' r' ran (YieldsList-from_range rows.first (rows.first + rows.count) rows.count refl (omega arith)) agrees
-      ∙ find_same rows.first rows.count
 
   pub any_in_range : (rows : Range) {F : Type 0} {g : Mut F (ℕ × Unit {0}) Bool} {f : F} {r : Bool} (u : Span ℕ)
       → ChecksAny nat_range_steps g (record { start = rows.first; end = rows.first + rows.count }) f r u

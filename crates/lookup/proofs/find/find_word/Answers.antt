@@ -1,11 +1,16 @@
--- The library's search goes through the same rows. Assumes nothing.
+-- The rows passed have other words; the first that has this one ends the search. Assumes nothing.
 use borrow.Author.Rules.{rules}
-use borrow.Author.Tests.{tests}
-use Rattle.lookup.specs.Found.{has_word}
-use Rattle.lookup.proofs.Searching.{find_in_range}
+use Rattle.lookup.proofs.Searching.{seeking}
 use Rattle.lookup.proofs.find.find_word.Goals as goal
 
+pub loop-row-init : goal.loop-row-init
+loop-row-init c = search (seeking, rules)
+
+pub returns-then-cell-word : goal.returns-then-cell-word
+returns-then-cell-word c = search (seeking, rules)
+
+pub loop-row-preserved : goal.loop-row-preserved
+loop-row-preserved c = search (seeking, rules)
+
 pub returns : goal.returns
-returns c =
-    find_in_range (has_word c.args.t.now c.args.width c.args.column c.args.word) c.args.rows _ c.find.ensures.ran
-    (λ row b h k. search (rules, tests))
+returns c = search (seeking, rules)
