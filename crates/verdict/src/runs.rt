@@ -11,53 +11,12 @@ use table_file::Held;
 pub fn run_in_order(held: &Held, text: &mut [u8], errors: &mut [u32]) -> Reported
     ensures { Reports (length text.old) (length errors.old) (report_in_order (record { tables = tables_held held.now }) (length text.old) (length errors.old)) result text.new errors.new }
 {
-    let t = held.tables();
-    run::run(
-        t.pool,
-        t.names,
-        t.type_refs,
-        t.types,
-        t.members,
-        t.fields,
-        t.arguments,
-        t.sets,
-        t.selections,
-        t.given,
-        t.fragments,
-        t.nodes,
-        t.literals,
-        t.variables,
-        t.answers,
-        t.root,
-        text,
-        errors,
-    )
+    run::run(&held.tables(), text, errors)
 }
 
 // The run in a given order.
 pub fn run_by_choices(held: &Held, choices: &[u32], text: &mut [u8], errors: &mut [u32]) -> Reported
     ensures { Reports (length text.old) (length errors.old) (report (record { tables = tables_held held.now }) (length text.old) (length errors.old) choices.now) result text.new errors.new }
 {
-    let t = held.tables();
-    run::run_ordered(
-        t.pool,
-        t.names,
-        t.type_refs,
-        t.types,
-        t.members,
-        t.fields,
-        t.arguments,
-        t.sets,
-        t.selections,
-        t.given,
-        t.fragments,
-        t.nodes,
-        t.literals,
-        t.variables,
-        t.answers,
-        t.root,
-        choices,
-        text,
-        errors,
-    )
+    run::run_ordered(&held.tables(), choices, text, errors)
 }

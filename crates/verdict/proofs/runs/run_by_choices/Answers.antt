@@ -3,4 +3,4 @@ use Rattle.verdict.proofs.Held.{held_by}
 use Rattle.verdict.proofs.runs.run_by_choices.Goals as goal
 
 pub returns : goal.returns
-returns c = rw (held_by _ _ _ _ c.tables-t.ensures) at c.run_ordered.ensures
+returns c = rw (held_by _ _ _ _ c.tables.ensures) at c.run_ordered.ensures
