@@ -1,7 +1,6 @@
 // "Runs that settle a reading": document 01's cases A to N, run. A case's tables are a table file (docs/TABLES.md).
 #![tactic(auto)]
 
-use codes::report::Reported;
 use table_file::{Held, layout};
 use verdict::answers::print_run;
 use verdict::file::Room;
@@ -193,12 +192,14 @@ const CASES: [Case; 14] = [
     },
 ];
 
-// A run: in document order where there are no choices.
-fn run(held: &Held, choices: &[u32], text: &mut [u8], errors: &mut [u32]) -> Reported {
-    if choices.is_empty() {
-        return run_in_order(held, text, errors);
-    }
-    run_by_choices(held, choices, text, errors)
+// Runs, in document order where there are no choices, and prints the answer.
+fn answer_run(out: &impl Print, held: &Held, choices: &[u32], text: &mut [u8], errors: &mut [u32]) {
+    let run = if choices.is_empty() {
+        run_in_order(held, text, errors)
+    } else {
+        run_by_choices(held, choices, text, errors)
+    };
+    print_run(out, &held.tables(), text, errors, run, false);
 }
 
 // Puts the case's tables, behind the schema that all share, at the start of `text`, and gives how many bytes there are.
@@ -217,18 +218,18 @@ fn answer(out: &impl Print, case: &Case) {
     let Ok(contents) = table_file::read(file::bytes(&text, length), &mut pool, &mut words) else {
         return;
     };
+    let sizes = contents.sizes;
     let held = Held {
         pool: &pool,
         words: &words,
-        sizes: contents.sizes,
+        sizes,
     };
     let mut data = [0u8; ROOM];
     let mut errors = [0u32; ROOM];
     let room = ROOM.min(case.room);
-    let reported = run(&held, case.choices, &mut data[..room], &mut errors);
     let name = case.name;
     let _ = print!(out; "{name} ");
-    print_run(out, &held.tables(), &data[..room], &errors, reported, false);
+    answer_run(out, &held, case.choices, &mut data[..room], &mut errors);
     say::words(out, b"\n");
 }
 

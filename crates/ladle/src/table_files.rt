@@ -30,10 +30,11 @@ pub(crate) struct TableFile<'a> {
 
 impl<'a> TableFile<'a> {
     pub(crate) fn held(&self) -> Held<'_> {
+        let sizes = self.sizes;
         Held {
             pool: &self.pool[..],
             words: &self.words[..],
-            sizes: self.sizes,
+            sizes,
         }
     }
 }
@@ -89,11 +90,12 @@ fn answer_text(
         say::words(out, path);
         say::words(out, b": ");
     }
+    let sizes = contents.sizes;
     let mut read = TableFile {
         text,
         pool: &mut pool,
         words: &mut words,
-        sizes: contents.sizes,
+        sizes,
     };
     let code = print_answer(out, question, &read.held(), choices);
     if code == UNLAWFUL && question != Question::RawRun {

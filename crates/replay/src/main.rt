@@ -37,10 +37,11 @@ fn answer_tables(out: &impl Print, shared: &[u8], own: &[u8], asked: &[u32]) {
             return;
         }
     };
+    let sizes = contents.sizes;
     let held = Held {
         pool: &pool,
         words: &words,
-        sizes: contents.sizes,
+        sizes,
     };
     if asked.is_empty() {
         print_depth(out, entries::depth(&held));

@@ -1,5 +1,4 @@
 // A run, asked of both entries.
-use codes::report::Reported;
 use table_file::Held;
 use verdict::answers::print_run;
 use verdict::runs::{run_by_choices, run_in_order};
@@ -17,35 +16,26 @@ struct Buffers<'a> {
     errors: &'a mut [u32],
 }
 
-fn print_answer(out: &impl Print, held: &Held, buffers: &Buffers, run: Reported) {
-    print_run(
-        out,
-        &held.tables(),
-        &buffers.text[..],
-        &buffers.errors[..],
-        run,
-        true,
-    );
-}
-
-fn is_same(a: &Buffers, b: &Buffers) -> bool {
-    &a.text[..] == &b.text[..] && &a.errors[..] == &b.errors[..]
-}
-
 // Where there are no choices, the run in document order has to leave the same in both its buffers, which held something else before. If
 // it does not, its answer is printed too.
 fn ask(out: &impl Print, held: &Held, choices: &[u32], buffers: Buffers, others: Buffers) {
-    let run = run_by_choices(held, choices, buffers.text, buffers.errors);
-    print_answer(out, held, &buffers, run);
+    let Buffers { text, errors } = buffers;
+    let tables = held.tables();
+    let run = run_by_choices(held, choices, text, errors);
+    print_run(out, &tables, text, errors, run, true);
     if !choices.is_empty() {
         return;
     }
-    let other = run_in_order(held, others.text, others.errors);
-    if other == run && is_same(&others, &buffers) {
+    let Buffers {
+        text: other_text,
+        errors: other_errors,
+    } = others;
+    let other = run_in_order(held, other_text, other_errors);
+    if other == run && &other_text[..] == &text[..] && &other_errors[..] == &errors[..] {
         return;
     }
     say::words(out, b", in document order ");
-    print_answer(out, held, &others, other);
+    print_run(out, &tables, other_text, other_errors, other, true);
 }
 
 // What is asked: how many bytes of text and words of errors there is room for, and the choices.
