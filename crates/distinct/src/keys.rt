@@ -80,12 +80,7 @@ fn all_keys_differ_since(pool: &[u8], nodes: &[u32], since: &[u16], known: usize
     ensures { result ≡ all (node_keys_differ pool.now nodes.now) (rows_of nodes.now node_width) }
 {
     let rows = row_count(nodes, NODE_WIDTH);
-    for row in 0..rows {
-        if !keys_differ_since(pool, nodes, since, known, row) {
-            return false;
-        }
-    }
-    true
+    (0..rows).all(|row| keys_differ_since(pool, nodes, since, known, row))
 }
 
 // As many keys are noted as objects have among them.

@@ -1,13 +1,11 @@
 -- What is written without a look inside: a literal that converts part by part, a variable, the label of a field. Assumes nothing.
-use mathlib.Core.Path.{◌≡◌, refl}
+use mathlib.Core.Path.{◌≡◌, refl, sym, ◌∙◌}
 use mathlib.Core.List.{List, [], ◌∷◌}
-use Rattle.std.specs.Prelude.{Option, Some, None}
+use Rattle.std.specs.Prelude.{Option, Some, None, Ok, Err}
+use Rattle.std.specs.Result.{result_ok}
 use Prim.Native.Nat.{ℕ, suc}
 use native.Mathlib.Omega.{arith}
 use lib.ListN.{length}
-use types.Run.{miss}
-use borrow.Enum.Refused.{Among, opened, shut}
-use denote.Enum.Declared.{tag_of}
 use Rattle.rows.specs.Layout.{node_width}
 use Rattle.rows.specs.Rows.{rows_of}
 use Rattle.rows.specs.Names.{name_text}
@@ -25,27 +23,20 @@ use Rattle.graphql.specs.Json.{Json, null, print, containers}
 use Rattle.graphql.specs.Lookup.{non_null, variable_named}
 use Rattle.graphql.specs.Values.{variable_value, part_by_part}
 use Rattle.graphql.specs.Coerce.{null_against, coerce_variable}
-use Rattle.input_coercion.proofs.Leaves.{not_found, is_found_lem}
-use Rattle.values.specs.Put.{ended, Ends, Puts, PutsNode}
+use Rattle.values.specs.Put.{Put, ended, Ends, Puts, PutsNode}
 use Rattle.values.specs.Room.{Within}
-use Rattle.values.specs.Literals.{Ending, there, far, variable, ended_as, EndsAs, PutsLiteral}
-use Rattle.values.specs.declared.node.Put.{Put}
-use Rattle.values.specs.declared.node.Put.TheVariants.{At, TooFar}
-use Rattle.values.specs.declared.literal.PutLiteral.{PutLiteral}
-use Rattle.values.specs.declared.literal.PutLiteral.TheVariants as put-literal
-use Rattle.values.specs.contracts.literal.PutLiteral.{the_type}
+use Rattle.values.specs.Literals.{Ending, PutLiteral, ended_as, EndsAs, PutsLiteral}
 use Rattle.values.proofs.Room.{node_within, literal_fits}
-use Rattle.values.proofs.LiteralEnds.{stops, came_at}
 use Rattle.echoing.specs.Echo.{Comes, Shown, Shows, Echoes, field_label, of_part, of_variable, EchoesVariable}
 use Rattle.echoing.proofs.Comes.{comes_pure, not_failed}
 
 -- of a run that comes to no value nothing is asked
 pub never : {K A : Type 0} (size : A → ℕ) (out : A → List ℕ) (room : ℕ) (m : K → M A) (text : List ℕ) (at : ℕ)
-    → ((k : K) (v : A) → Comes (m k) v → ⊥) → Shows size out room m text at TooFar text
+    → ((k : K) (v : A) → Comes (m k) v → ⊥) → Shows size out room m text at None text
 never size out room m text at h = record { long = refl; shown = λ k v q. absurd (h k v q) }
 
 pub null_shown : (room : ℕ) {j : Json} {text text' : List ℕ} {at end : ℕ} → null ≡ j → Writes text text' at end null_name
-    → Shown room (containers j) (print j) text at (At end) text'
+    → Shown room (containers j) (print j) text at (Some end) text'
 unfolding print containers
 null_shown room e w = rw (← e) (record { fits = λ l. record { end = _; is = refl; writes = w }; full = λ l. absurd (omega arith) })
 
@@ -53,39 +44,29 @@ null_shown room e w = rw (← e) (record { fits = λ l. record { end = _; is = r
 
 module _ (pool names literals : List ℕ) (room row : ℕ) {text text' : List ℕ} {at : ℕ} {r : PutLiteral}
     (q : PutsLiteral pool names literals room row text at r text') where
-  pub literal_there : {end : ℕ} → r ≡ put-literal.At end → Echoes room (of_part pool names literals room row) text at (At end) text'
-  unfolding of_part
-  literal_there {end} h =
-      let v = came_at q h in
-      record {
-        long = v.2.wrote.long;
-        shown = λ p j e.
-            let here = v.1 e.from in
-            let came = e.is in
-            let s : v.0 ≡ j = cc in
-            record {
-              fits = λ l. record { end = end; is = refl; writes = rw s at v.2 };
-              full = λ l. absurd (omega (arith, literal_fits pool names literals room row j e.log e.from e.to e.is));
-            };
-      }
-
-  pub literal_not : Among stops (tag_of the_type r) → Echoes room (of_part pool names literals room row) text at TooFar text'
+  pub literal_shown : Echoes room (of_part pool names literals room row) text at (result_ok r) text'
   unfolding of_part ended_as pure halt
-  literal_not o = go q.ending q.is q.put
+  literal_shown = go q.ending q.is q.put
     where
       go : (v : Ending) → ((c : Choices) → part_by_part pool names literals room row c ≡ ended_as v c) → EndsAs v text at r text'
-          → Echoes room (of_part pool names literals room row) text at TooFar text'
-      go (there j) is put = absurd (miss stops 0 tt (opened (rw put.is at o)))
-      go far is put = record {
-        long = put.long;
-        shown = λ p j e. let here = is e.from in let came = e.is in absurd (let z : ◌≡◌ {A = ℕ} 0 1 = cc in omega arith);
-      }
-      go variable is put = record {
-        long = put.long;
-        shown = λ p j e. let here = is e.from in let came = e.is in absurd (let z : ◌≡◌ {A = ℕ} 0 1 = cc in omega arith);
-      }
-
-pub ruleset literals = (literal_there, literal_not, shut)
+          → Echoes room (of_part pool names literals room row) text at (result_ok r) text'
+      go (Ok i) is put =
+          rw put.is (record {
+            long = put.writes.wrote.long;
+            shown = λ p j e.
+                let here = is e.from in
+                let came = e.is in
+                let s : i ≡ j = cc in
+                record {
+                  fits = λ l. record { end = put.end; is = refl; writes = rw s at put.writes };
+                  full = λ l. absurd (omega (arith, literal_fits pool names literals room row j e.log e.from e.to e.is));
+                };
+          })
+      go (Err o) is put =
+          rw put.is (record {
+            long = put.long;
+            shown = λ p j e. let here = is e.from in let came = e.is in absurd (let z : ◌≡◌ {A = ℕ} 0 1 = cc in omega arith);
+          })
 
 -- ---- a node
 
@@ -120,7 +101,7 @@ module _ {m : M Json} {text text' : List ℕ} {at : ℕ} {r : Put} (q : Puts m t
 module _ (pool nodes variables : List ℕ) (room name : ℕ) {found : Option ℕ} (e : found ≡ (variable_named variables name)) {text text' : List ℕ}
     {at : ℕ} where
   pub variable_none : {end : ℕ} → found ≡ None → Writes text text' at end null_name
-      → EchoesVariable pool nodes variables room name text at (At end) text'
+      → EchoesVariable pool nodes variables room name text at (Some end) text'
   unfolding of_variable coerce_variable
   variable_none h w = record {
     echoes = λ names refs types fields literals ty row. record {
@@ -128,7 +109,7 @@ module _ (pool nodes variables : List ℕ) (room name : ℕ) {found : Option ℕ
       shown = λ p j q.
           null_shown room
           (comes_pure (not_failed (non_null refs ty) literals error.MissingVariable row p (pure null)
-          (rw (not_found (variable_named variables name) e h) at q))) w;
+          (rw (sym e ∙ h) at q))) w;
     };
   }
 
@@ -140,7 +121,7 @@ module _ (pool nodes variables : List ℕ) (room name : ℕ) {found : Option ℕ
       long = puts_long w;
       shown = λ p j q.
           let n = not_failed (null_against refs nodes variables ty v) literals error.NullVariable row p (variable_value pool nodes variables v)
-          (rw (is_found_lem (variable_named variables name) e h) at q) in
+          (rw (sym e ∙ h) at q) in
           within_shown w room j
           (rw k (node_within pool nodes (suc (rows_of nodes node_width)) room (variable_at variables v).node j n.log n.from n.to n.is));
     };

@@ -1,6 +1,7 @@
 -- The text of a leaf, way by way. Assumes nothing.
 use mathlib.Core.Path.{◌≡◌, refl}
 use mathlib.Core.List.{List, []}
+use Rattle.std.specs.Prelude.{Some}
 use Prim.Native.Nat.{ℕ, suc}
 use native.Mathlib.Omega.{arith}
 use Rattle.rows.specs.Layout.{node_width}
@@ -10,9 +11,7 @@ use Rattle.codes.specs.Outcome.{most_open}
 use Rattle.tokens.specs.Escape.{quoted}
 use Rattle.writing.specs.Wrote.{Writes}
 use Rattle.graphql.specs.Json.{print, containers}
-use Rattle.values.specs.Put.{PutsNode}
-use Rattle.values.specs.declared.node.Put.{Put}
-use Rattle.values.specs.declared.node.Put.TheVariants.{At}
+use Rattle.values.specs.Put.{Put, PutsNode}
 use Rattle.values.proofs.Room.{node_within}
 use Rattle.echoing.specs.Echo.{Echoes, of_part, of_value}
 use Rattle.echoing.proofs.Leaves.{puts_long, within_shown}
@@ -23,7 +22,7 @@ use Rattle.leaves.specs.declared.leaf.Leaf.TheVariants as leaf
 
 module _ (pool names refs types fields nodes literals variables : List ℕ) {l : Leaf} {text text' : List ℕ} {at : ℕ} where
   pub puts_name : {name end : ℕ} {bytes : List ℕ} → l ≡ leaf.Name name → bytes ≡ name_text pool names name
-      → Writes text text' at end (quoted bytes) → PutsLeaf pool names refs types fields nodes literals variables l text at (At end) text'
+      → Writes text text' at end (quoted bytes) → PutsLeaf pool names refs types fields nodes literals variables l text at (Some end) text'
   unfolding print containers
   puts_name h b w =
       rw h

@@ -13,7 +13,7 @@ use Rattle.graphql.specs.Values.{node_value, part_by_part, variable, literal_for
 use Rattle.graphql.specs.Coerce.{coerce_argument_value}
 use Rattle.values.specs.Plain.{said}
 use Rattle.values.specs.declared.sort.Sort.{Sort}
-use Rattle.values.specs.declared.node.Put.{Put}
+use Rattle.values.specs.Put.{Put}
 use Rattle.echoing.specs.Echo.{Comes, Shown}
 use Rattle.leaves.specs.declared.leaf.Leaf.{Leaf}
 use Rattle.leaves.specs.declared.leaf.Leaf.TheVariants as leaf

@@ -8,6 +8,7 @@ use crate::strings::{Text, text_of};
 
 pub const NAME_WIDTH: usize = 2;
 
+#[tactic(auto, unfolding(crate::specs::Names::name_at))]
 pub fn name_at(names: &[u32], row: u32) -> Text
     ensures { result ≡ name_at names.now row }
 {

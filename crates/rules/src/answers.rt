@@ -48,13 +48,8 @@ fn answer_parts(answers: &[u32], answer: Answer) -> bool
     ensures { result ≡ answer_parts answers.now answer }
 {
     match answer {
-        Answer::Object { ty: _, fields } => is_distinct(answers, ANSWER_WIDTH, ANSWER_NAME, fields),
-        Answer::Skip => true,
-        Answer::Error => true,
-        Answer::Leaf(_) => true,
-        Answer::List(_) => true,
-        Answer::Echo(_) => true,
-        Answer::Unknown => true,
+        Answer::Object { fields, .. } => is_distinct(answers, ANSWER_WIDTH, ANSWER_NAME, fields),
+        _ => true,
     }
 }
 
@@ -67,15 +62,7 @@ pub fn answer_names_differ(answers: &[u32], row: u32) -> bool
 fn is_object(answer: Answer) -> bool
     ensures { result ≡ is_object answer }
 {
-    match answer {
-        Answer::Object { ty: _, fields: _ } => true,
-        Answer::Skip => false,
-        Answer::Error => false,
-        Answer::Leaf(_) => false,
-        Answer::List(_) => false,
-        Answer::Echo(_) => false,
-        Answer::Unknown => false,
-    }
+    matches!(answer, Answer::Object { .. })
 }
 
 pub fn root_answer_is_object(answers: &[u32]) -> bool

@@ -43,12 +43,7 @@ pub(crate) fn is_new(t: &[u32], width: usize, column: usize, first: u32, i: u32)
 {
     let from = first as usize;
     let row = from + (i as usize);
-    for j in 0..i {
-        if !is_other(t, width, column, row, from + (j as usize)) {
-            return false;
-        }
-    }
-    true
+    (0..i).all(|j| is_other(t, width, column, row, from + (j as usize)))
 }
 
 // As `is_new`, where the words of the i rows before are marked; marks the row's own. The words that are asked about number names, and

@@ -171,15 +171,7 @@ pub fn arguments_differ(fields: &[u32], arguments: &[u32], row: u32) -> bool
 fn is_object_kind(kind: TypeKind) -> bool
     ensures { result ≡ object_kind kind }
 {
-    match kind {
-        TypeKind::Object => true,
-        TypeKind::Scalar => false,
-        TypeKind::Enum => false,
-        TypeKind::Interface => false,
-        TypeKind::Union => false,
-        TypeKind::InputObject => false,
-        TypeKind::Unknown => false,
-    }
+    matches!(kind, TypeKind::Object)
 }
 
 pub fn root_is_object(types: &[u32], root: u32) -> bool

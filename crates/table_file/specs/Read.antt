@@ -5,7 +5,7 @@ use Rattle.table_file.specs.declared.lines.Contents.{Contents}
 use Rattle.table_file.specs.declared.lines.NoTableFile.{NoTableFile}
 
 -- sizes within their bounds, and a line that the text has
-pub record Held (text : List ℕ) (r : Contents) : Type 0 where
+pub record Accepted (text : List ℕ) (r : Contents) : Type 0 where
   pub sizes : Within r.sizes
   pub line : r.line ≤ length text
 
@@ -16,4 +16,4 @@ pub record Refused (text : List ℕ) (r : NoTableFile) : Type 0 where
   pub inside : r.to ≤ length text
 
 abbrev pub Read : List ℕ → Result Contents NoTableFile → Type 0
-Read text r = MatchResult r (Held text) (Refused text)
+Read text r = MatchResult r (Accepted text) (Refused text)

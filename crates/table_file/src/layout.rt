@@ -81,11 +81,12 @@ pub fn new_words() -> Words
     [0; WORDS]
 }
 
-// How many words a row of a table has; 0 of the pool and of no table.
+// How many words a row of a table has; 0 of the pool and of no table. By number, since `row_width` and `row_start` promise an
+// answer for every number, also where it is no table's.
 pub fn row_width(number: usize) -> usize
     ensures { result ≡ width_of number }
 {
-    if number < TABLES { WIDTHS[number] } else { 0 }
+    WIDTHS.get(number).copied().unwrap_or(0)
 }
 
 // Where a row begins in its table.

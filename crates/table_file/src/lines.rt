@@ -82,7 +82,8 @@ fn line_at(
     Ok(open)
 }
 
-// Reads a table file up to the line with which this table has more than so many words, or to its end.
+// Reads a table file up to the line with which this table has more than so many words, or to its end. A `while`, since faults have places
+// in the whole text, which an iterator over lines would not know.
 fn read_beyond(
     text: &[u8],
     store: &mut Store,

@@ -35,7 +35,8 @@ fn times_of(text: &[u8], from: usize) -> Times
     Times { at: from, times: 1 }
 }
 
-// Reads tokens up to the line's end. A fault is where its token begins.
+// Reads tokens up to the line's end. A fault is where its token begins. A `while`, since reading a token says where the next begins:
+// an iterator over tokens would keep the store to itself, and say no more.
 fn tokens(table: Table, text: &[u8], from: usize, store: &mut Store) -> Result<usize, Misread>
     requires { from ≤ length text.now }
     ensures { Reaches text.now from result }

@@ -14,11 +14,11 @@ pub(crate) struct Filled {
     ghost within: { Within sizes },
 }
 
-fn nothing() -> Filled {
-    Filled { sizes: [0; TABLES] }
-}
-
 impl Filled {
+    fn nothing() -> Filled {
+        Filled { sizes: [0; TABLES] }
+    }
+
     fn size(&self, table: Table) -> usize
         ensures is { result ≡ get_or self.now.sizes (number_of table) 0 }
         ensures within { result ≤ room_of table }
@@ -61,6 +61,7 @@ fn repeat_items<T: Copy>(items: &mut [T], count: usize, total: usize)
     }
 }
 
+// The pool and the words that a text is read into, and how much of them is filled.
 #[derive(Drop)]
 pub(crate) struct Store<'a> {
     pub pool: &'a mut Pool,
@@ -73,7 +74,7 @@ impl<'a> Store<'a> {
         Store {
             pool,
             words,
-            filled: nothing(),
+            filled: Filled::nothing(),
         }
     }
 
@@ -107,7 +108,7 @@ impl<'a> Store<'a> {
         Ok(())
     }
 
-    // Puts a word at the end of a table other than the pool, where there is room.
+    // Puts a word at a table's end, where there is room. The pool has no words, and none is put there.
     pub(crate) fn append(&mut self, table: Table, word: u32) -> Result<(), Fault> {
         let size = self.filled.size(table);
         if size >= REGION {

@@ -71,7 +71,8 @@ fn closed(text: &[u8], at: usize) -> Result<usize, Fault>
     }
 }
 
-// Appends the bytes of the string whose opening quote stands before `from`, and gives where it ends.
+// Appends the bytes of the string whose opening quote stands before `from`, and gives where it ends. A `while`, since a letter is one byte
+// of the text, two or four.
 pub(crate) fn string(text: &[u8], from: usize, store: &mut Store) -> Result<usize, Fault>
     requires { from ≤ length text.now }
     ensures end { IfOk result (λ end. (from ≤ end) × (end ≤ length text.now)) }

@@ -4,9 +4,6 @@ use Rattle.std.specs.Prelude.{Option, Some, None}
 use Rattle.text.specs.Ascii.{is_ascii}
 use Rattle.text.specs.Utf8.{is_utf8, character_number}
 use Rattle.text.specs.declared.utf8.Decoded.{Decoded}
-use Rattle.text.specs.declared.utf8.Decoded.TheVariants.{Char, Bad}
-use Rattle.text.specs.declared.numbers.Part.{Part}
-use Rattle.text.specs.declared.numbers.Part.TheVariants.{Ends, Absent}
 
 -- The octets from `at` up to `next` are whole blocks of `size` octets, and US-ASCII.
 pub record AsciiBlocks (s : List ℕ) (size at next : ℕ) : Type 0 where
@@ -28,11 +25,12 @@ pub record ReadChar (s : List ℕ) (at point next : ℕ) : Type 0 where
   pub number : point ≡ character_number (take (next - at) (drop at s))
   pub same : is_utf8 (drop at s) ≡ is_utf8 (drop next s)
 
-abbrev pub Decodes : List ℕ → ℕ → Decoded → Type 0
-Decodes s at (Char point next) = ReadChar s at point next
-Decodes s at Bad = is_utf8 (drop at s) ≡ false
+-- A character is there, or none is, or only the beginning of one.
+abbrev pub Decodes : List ℕ → ℕ → Option Decoded → Type 0
+Decodes s at (Some character) = ReadChar s at character.point character.next
+Decodes s at None = is_utf8 (drop at s) ≡ false
 
 -- what stands behind a part of a number that was looked for
-abbrev pub rest : List ℕ → Part → Option (List ℕ)
-rest s (Ends at) = Some (drop at s)
-rest s Absent = None
+abbrev pub rest : List ℕ → Option ℕ → Option (List ℕ)
+rest s (Some at) = Some (drop at s)
+rest s None = None

@@ -8,26 +8,25 @@ ghost use Rattle.text.specs.Found.{PastAscii};
 pub fn is_ascii(s: &[u8]) -> bool
     ensures { result ≡ is_ascii s.now }
 {
-    let mut gathered: u8 = 0;
-    for i in 0..s.len() {
-        gathered = gathered | s[i];
+    let mut gathered = 0;
+    for byte in s {
+        gathered |= *byte;
     }
-    gathered < 0x80
+    gathered.is_ascii()
 }
 
-// The position past the blocks of `size` bytes, from `from` on, each of which is US-ASCII.
-fn past_blocks(s: &[u8], from: usize, size: usize) -> usize
+// The position past the blocks of `SIZE` bytes, from `from` on, each of which is US-ASCII.
+fn past_blocks<const SIZE: usize>(s: &[u8], from: usize) -> usize
     requires from_in_bounds { from ≤ length s.now }
-    requires size_nonzero { 0 < size }
-    ensures { PastAscii s.now size from result }
+    requires size_nonzero { 0 < SIZE }
+    ensures { PastAscii s.now SIZE from result }
 {
     let mut at = from;
-    while size <= s.len() - at {
-        let end = at + size;
-        if !is_ascii(&s[at..end]) {
+    for block in s[from..].chunks_exact(SIZE) {
+        if !is_ascii(block) {
             return at;
         }
-        at = end;
+        at += SIZE;
     }
     at
 }
@@ -38,7 +37,7 @@ pub(crate) fn past_ascii(s: &[u8], from: usize) -> usize
     requires { from ≤ length s.now }
     ensures { PastAscii s.now 1 from result }
 {
-    let long = past_blocks(s, from, 64);
-    let short = past_blocks(s, long, 8);
-    past_blocks(s, short, 1)
+    let long = past_blocks::<64>(s, from);
+    let short = past_blocks::<8>(s, long);
+    past_blocks::<1>(s, short)
 }

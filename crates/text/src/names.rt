@@ -2,47 +2,28 @@
 ghost use Rattle.std.specs.Prelude.{◌≡◌};
 ghost use Rattle.text.specs.Names.{NameStart, NameContinue, is_name};
 
+#[tactic(auto, using(std::proofs::lemmas::Bool::Decides::nat_tests), unfolding(crate::specs::Names::NameStart))]
 fn is_name_start(c: u8) -> bool
     ensures { result ≡ NameStart c }
 {
-    if c == b'_' {
-        return true;
-    }
-    if b'a' <= c {
-        return c <= b'z';
-    }
-    if b'A' <= c {
-        return c <= b'Z';
-    }
-    false
+    matches!(c, b'A'..=b'Z' | b'a'..=b'z' | b'_')
 }
 
+#[tactic(auto, using(std::proofs::lemmas::Bool::Decides::nat_tests), unfolding(crate::specs::Names::NameStart, crate::specs::Names::NameContinue))]
 fn is_name_continue(c: u8) -> bool
     ensures { result ≡ NameContinue c }
 {
-    if is_name_start(c) {
-        return true;
-    }
-    if b'0' <= c {
-        return c <= b'9';
-    }
-    false
+    is_name_start(c) || c.is_ascii_digit()
 }
 
 // Whether `s` is a Name. How long a name may be is another rule.
 pub fn is_name(s: &[u8]) -> bool
     ensures { result ≡ is_name s.now }
 {
-    if s.len() == 0 {
-        return false;
-    }
-    if !is_name_start(s[0]) {
-        return false;
-    }
-    for i in 1..s.len() {
-        if !is_name_continue(s[i]) {
-            return false;
+    match s {
+        [first, others @ ..] => {
+            is_name_start(*first) && others.iter().all(|c| is_name_continue(*c))
         }
+        [] => false,
     }
-    true
 }

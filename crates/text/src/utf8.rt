@@ -7,33 +7,11 @@ ghost use Rattle.text.specs.Found.{Decodes};
 
 use crate::ascii::past_ascii;
 
-// What stands at a position of a text.
+// A character of a text: its code point, and the position past its last byte.
 #[derive(Clone, Copy)]
-enum Decoded {
-    // A character: its code point, and the position past its last byte.
-    Char { point: u32, next: usize },
-    // No character, or only the beginning of one.
-    Bad,
-}
-
-fn wide(byte: u8) -> u32
-    ensures { result ≡ byte }
-{
-    byte as u32
-}
-
-// How many bytes the sequence has that begins with `lead`: as many as the ones that `lead` begins with. 0 where it begins
-// with none, which is a character by itself, with a single one, which is a continuation byte, or with more than four.
-fn sequence_length(lead: u8) -> usize
-    ensures { Leads lead result }
-{
-    let ones = u8::leading_zeros(!lead);
-    match ones {
-        2 => 2,
-        3 => 3,
-        4 => 4,
-        _ => 0,
-    }
+struct Decoded {
+    point: u32,
+    next: usize,
 }
 
 // The bits of the code point in the first byte of a sequence of `size` bytes: those below its ones and the zero after them.
@@ -41,13 +19,13 @@ fn lead_bits(lead: u8, size: usize) -> u32
     requires { size < 7 }
     ensures { result ≡ lead_bits size lead }
 {
-    wide(lead & (0x7f >> size))
+    u32::from(lead & (0x7f >> size))
 }
 
 fn is_tail(byte: u8) -> bool
     ensures { result ≡ (byte ∈ UTF8-tail) }
 {
-    byte & 0xc0 == 0x80
+    matches!(byte, 0x80..=0xbf)
 }
 
 // The code point so far with the six bits of a continuation byte behind it.
@@ -55,7 +33,7 @@ fn with_tail(point: u32, byte: u8) -> u32
     requires { point < 2 ^ 26 }
     ensures { result ≡ point * 64 + byte % 64 }
 {
-    (point << 6) | wide(byte & 0x3f)
+    (point << 6) | u32::from(byte & 0x3f)
 }
 
 // The least code point that needs `size` bytes. A smaller one in as many bytes is overlong.
@@ -70,58 +48,51 @@ fn least(size: usize) -> u32
 }
 
 // Whether a sequence of `size` bytes may spell `point`: not overlong, no surrogate, none above the last code point.
+#[tactic(auto, using(std::proofs::lemmas::Bool::Decides::nat_tests), unfolding(crate::specs::Utf8::allowed))]
 fn is_allowed(point: u32, size: usize) -> bool
     ensures { result ≡ allowed size point }
 {
-    if point < least(size) {
-        return false;
-    }
-    if point < 0xd800 {
-        return true;
-    }
-    if point <= 0xdfff {
-        return false;
-    }
-    point <= 0x10_ffff
+    least(size) <= point && !matches!(point, 0xd800..=0xdfff) && point <= 0x10_ffff
 }
 
-// The character at `at`, whose first byte says that it has `size` bytes.
-fn decode_sequence(s: &[u8], at: usize, size: usize) -> Decoded
+// The character at `at`, whose first byte says that it has `N` bytes; none, where only its beginning stands there.
+fn decode_sequence<const N: usize>(s: &[u8], at: usize) -> Option<Decoded>
     requires at_in_bounds { at < length s.now }
-    requires leads { Leads (get_or s.now at 0) size }
-    requires size_nonzero { 0 < size }
+    requires leads { Leads (get_or s.now at 0) N }
+    requires size_nonzero { 0 < N }
     ensures { Decodes s.now at result }
 {
-    if s.len() - at < size {
-        return Decoded::Bad;
+    if s.len() - at < N {
+        return None;
     }
-    let end = at + size;
-    let mut point = lead_bits(s[at], size);
-    for i in at + 1..end {
+    let next = at + N;
+    let mut point = lead_bits(s[at], N);
+    for i in at + 1..next {
         let byte = s[i];
         if !is_tail(byte) {
-            return Decoded::Bad;
+            return None;
         }
         point = with_tail(point, byte);
     }
-    if is_allowed(point, size) {
-        return Decoded::Char { point, next: end };
+    if is_allowed(point, N) {
+        Some(Decoded { point, next })
+    } else {
+        None
     }
-    Decoded::Bad
 }
 
-// The character at `at`, of more than one byte. Each length is named, so that the compiler makes straight code for it.
-fn decode(s: &[u8], at: usize) -> Decoded
+// The character at `at`, of more than one byte: as many as the ones that its first byte begins with. Each length has a
+// function of its own, so that the compiler makes straight code for it.
+fn decode(s: &[u8], at: usize) -> Option<Decoded>
     requires at_in_bounds { at < length s.now }
     requires bound { 0x80 ≤ get_or s.now at 0 }
     ensures { Decodes s.now at result }
 {
-    let size = sequence_length(s[at]);
-    match size {
-        2 => decode_sequence(s, at, 2),
-        3 => decode_sequence(s, at, 3),
-        4 => decode_sequence(s, at, 4),
-        _ => Decoded::Bad,
+    match s[at].leading_ones() {
+        2 => decode_sequence::<2>(s, at),
+        3 => decode_sequence::<3>(s, at),
+        4 => decode_sequence::<4>(s, at),
+        _ => None,
     }
 }
 
@@ -131,17 +102,12 @@ pub fn is_utf8(s: &[u8]) -> bool
 {
     let mut at = 0;
     while at < s.len() {
-        if s[at] < 0x80 {
+        if s[at].is_ascii() {
             at = past_ascii(s, at);
+        } else if let Some(character) = decode(s, at) {
+            at = character.next;
         } else {
-            match decode(s, at) {
-                Decoded::Char { point: _, next } => {
-                    at = next;
-                }
-                Decoded::Bad => {
-                    return false;
-                }
-            }
+            return false;
         }
     }
     true
@@ -152,10 +118,7 @@ fn is_boundary(s: &[u8], at: usize) -> bool
     requires { at ≤ length s.now }
     ensures { result ≡ is_boundary s.now at }
 {
-    if at == s.len() {
-        return true;
-    }
-    !is_tail(s[at])
+    at == s.len() || !is_tail(s[at])
 }
 
 // Whether the part of `pool` from `start` up to `end` is well-formed UTF-8, where all of it is: two looks, whatever the length.
@@ -165,11 +128,5 @@ pub fn is_part_utf8(pool: &[u8], start: usize, end: usize) -> bool
     requires end_in_bounds { end ≤ length pool.now }
     ensures { result ≡ is_utf8 (take (end - start) (drop start pool.now)) }
 {
-    if start == end {
-        return true;
-    }
-    if !is_boundary(pool, start) {
-        return false;
-    }
-    is_boundary(pool, end)
+    start == end || (is_boundary(pool, start) && is_boundary(pool, end))
 }

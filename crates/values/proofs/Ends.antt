@@ -9,23 +9,21 @@ use Rattle.writing.specs.Wrote.{Writes}
 use Rattle.codes.specs.Outcome.{too_far}
 use Rattle.graphql.specs.Run.{Choices, M, stop, done, pure, halt}
 use Rattle.graphql.specs.Json.{Json, print}
-use Rattle.values.specs.Put.{ended, Ends, Puts}
-use Rattle.values.specs.declared.node.Put.{Put}
-use Rattle.values.specs.declared.node.Put.TheVariants.{At, TooFar}
+use Rattle.values.specs.Put.{Put, ended, Ends, Puts}
 
 module _ {m : M Json} {before after : List ℕ} {at : ℕ} where
   -- the two ways
-  pub ends_at : (j : Json) {end : ℕ} → ((c : Choices) → m c ≡ done j [] c) → Writes before after at end (print j) → Puts m before at (At end) after
+  pub ends_at : (j : Json) {end : ℕ} → ((c : Choices) → m c ≡ done j [] c) → Writes before after at end (print j) → Puts m before at (Some end) after
   unfolding ended pure
   ends_at j e w = record { value = Some j; is = e; put = record { end = _; is = refl; writes = w } }
 
-  pub ends_too_far : ((c : Choices) → m c ≡ stop too_far []) → length after ≡ length before → Puts m before at TooFar after
+  pub ends_too_far : ((c : Choices) → m c ≡ stop too_far []) → length after ≡ length before → Puts m before at None after
   unfolding ended halt
   ends_too_far e l = record { value = None; is = e; put = record { is = refl; long = l } }
 
   -- and which it was
   module _ {r : Put} (q : Puts m before at r after) where
-    pub came_at : {end : ℕ} → r ≡ At end → (j : Json) × ((c : Choices) → m c ≡ done j [] c) × Writes before after at end (print j)
+    pub came_at : {end : ℕ} → r ≡ Some end → (j : Json) × ((c : Choices) → m c ≡ done j [] c) × Writes before after at end (print j)
     unfolding ended pure
     came_at {end} e = go q.value q.is q.put
       where
@@ -34,7 +32,7 @@ module _ {m : M Json} {before after : List ℕ} {at : ℕ} where
         go None is put = let w = put.is in absurd (let z : ◌≡◌ {A = ℕ} 0 1 = cc in omega arith)
         go (Some j) is put = let w = put.is in let s : put.end ≡ end = cc in (j, is, rw s at put.writes)
 
-    pub came_too_far : r ≡ TooFar → ((c : Choices) → m c ≡ stop too_far []) × (length after ≡ length before)
+    pub came_too_far : r ≡ None → ((c : Choices) → m c ≡ stop too_far []) × (length after ≡ length before)
     unfolding ended halt
     came_too_far e = go q.value q.is q.put
       where

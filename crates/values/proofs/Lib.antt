@@ -1,4 +1,5 @@
 pub mod Closing
+pub mod Codes
 pub mod Determined
 pub mod Ends
 pub mod Going

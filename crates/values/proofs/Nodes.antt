@@ -2,6 +2,7 @@
 use mathlib.Core.Path.{◌≡◌, refl}
 use mathlib.Core.Bool.{Bool, true, false}
 use mathlib.Core.List.{List, [], ◌∷◌}
+use Rattle.std.specs.Prelude.{Some, None}
 use Prim.Native.Nat.{ℕ, ◌+◌, ◌*◌}
 use native.Mathlib.Omega.{arith}
 use types.Run.{miss}
@@ -21,7 +22,6 @@ use Rattle.graphql.specs.Json.{null, print}
 use Rattle.values.specs.Plain.{plain_value}
 use Rattle.values.specs.Put.{shape_of}
 use Rattle.values.specs.declared.node.Parts.{Parts}
-use Rattle.values.specs.declared.node.Shape.TheVariants.{Plain, Container}
 
 -- ---- what is plain
 
@@ -81,7 +81,7 @@ pub ruleset plain = (puts_false, puts_true, puts_natural, puts_negative, puts_fl
 abbrev plains : List ℕ
 plains = 0 ∷ 1 ∷ 2 ∷ 3 ∷ 4 ∷ 5 ∷ 6 ∷ 9 ∷ []
 
-pub shape_plain : (n : Node) → Among plains (tag_of the_type n) → Plain ≡ shape_of n
+pub shape_plain : (n : Node) → Among plains (tag_of the_type n) → None ≡ shape_of n
 shape_plain node.Null o = refl
 shape_plain node.False o = refl
 shape_plain node.True o = refl
@@ -98,7 +98,7 @@ unfoldable pub container_node : (keyed : Bool) → Range → Node
 container_node false rows = node.Array rows
 container_node true rows = node.Object rows
 
-pub shape_container : (n : Node) (parts : Parts) → shape_of n ≡ Container parts → n ≡ container_node parts.keyed parts.rows
+pub shape_container : (n : Node) (parts : Parts) → shape_of n ≡ Some parts → n ≡ container_node parts.keyed parts.rows
 unfolding container_node
 shape_container node.Null parts e = absurd (let z : ◌≡◌ {A = ℕ} 0 1 = cc in omega arith)
 shape_container node.False parts e = absurd (let z : ◌≡◌ {A = ℕ} 0 1 = cc in omega arith)

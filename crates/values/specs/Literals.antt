@@ -1,5 +1,6 @@
 -- What the functions that read and write a literal ensure, by the definition of its conversion part by part.
 use Rattle.std.specs.Prelude.{◌≡◌, true, false, List, ℕ, zero, suc, ◌+◌, ◌≤◌, length}
+use Rattle.std.specs.Prelude.{Result, Ok, Err}
 use Rattle.rows.specs.Limits.{most_literals}
 use Rattle.rows.specs.Strings.{text_of}
 use Rattle.rows.specs.Names.{name_text}
@@ -8,7 +9,8 @@ use Rattle.rows.specs.declared.layout.Range.{Range}
 use Rattle.rows.specs.declared.json.Literal.{Literal}
 use Rattle.rows.specs.declared.json.Literal.TheVariants as literal
 use Rattle.writing.specs.Wrote.{Writes}
-use Rattle.codes.specs.Outcome.{too_far, variable_in_literal}
+use Rattle.codes.specs.Outcome.{too_far, code_of}
+use Rattle.codes.specs.declared.outcome.Outcome.{Outcome}
 use Rattle.graphql.specs.Run.{Log, Choices, M, done, pure, halt}
 use Rattle.graphql.specs.Json.{Json, null, bool, natural, negative, float, string, print, sort_of}
 use Rattle.graphql.specs.Json as defined
@@ -16,8 +18,6 @@ use Rattle.graphql.specs.Lookup.{rows_in}
 use Rattle.graphql.specs.Values.{part_by_part}
 use Rattle.values.specs.Put.{container_of}
 use Rattle.values.specs.declared.node.Parts.{Parts}
-use Rattle.values.specs.declared.literal.PutLiteral.{PutLiteral}
-use Rattle.values.specs.declared.literal.PutLiteral.TheVariants.{At, TooFar, Variable}
 
 -- the value of a literal that is no container and no variable; null for those, of which it is not asked
 unfoldable pub plain_literal : (pool names : List ℕ) → Literal → Json
@@ -63,32 +63,32 @@ pub record LiteralsParted (literals : List ℕ) : Type 0 where
 
 -- ---- A value that was written
 
--- how a literal's value ends: it is there, it is too far, or a variable was reached; nothing is logged, and no choice is read
-pub data Ending : Type 0 where
-  there : Json → Ending
-  far : Ending
-  variable : Ending
+-- how a literal's value ends: it is there, or the run stops; nothing is logged, and no choice is read
+abbrev pub Ending : Type 0
+Ending = Result Json Outcome
 
 unfoldable pub ended_as : Ending → M Json
-ended_as (there j) = pure j
-ended_as far = halt too_far
-ended_as variable = halt variable_in_literal
+ended_as (Ok j) = pure j
+ended_as (Err o) = halt (code_of o)
+
+-- the position after what was written; or why the run stops
+abbrev pub PutLiteral : Type 0
+PutLiteral = Result ℕ Outcome
 
 -- the text of the value was written from `at` on, and the position is the one after it
 pub record PutsLiteralText (j : Json) (before : List ℕ) (at : ℕ) (r : PutLiteral) (after : List ℕ) : Type 0 where
   pub end : ℕ
-  pub is : r ≡ At end
+  pub is : r ≡ Ok end
   pub writes : Writes before after at end (print j)
 
 -- it was given up: the buffer is as long as it was, and what stands in it is nobody's
-pub record GaveUpAs (why : PutLiteral) (before : List ℕ) (r : PutLiteral) (after : List ℕ) : Type 0 where
-  pub is : r ≡ why
+pub record GaveUpAs (why : Outcome) (before : List ℕ) (r : PutLiteral) (after : List ℕ) : Type 0 where
+  pub is : r ≡ Err why
   pub long : length after ≡ length before
 
 abbrev pub EndsAs : Ending → (before : List ℕ) (at : ℕ) (r : PutLiteral) (after : List ℕ) → Type 0
-EndsAs (there j) before at r after = PutsLiteralText j before at r after
-EndsAs far before at r after = GaveUpAs TooFar before r after
-EndsAs variable before at r after = GaveUpAs Variable before r after
+EndsAs (Ok j) before at r after = PutsLiteralText j before at r after
+EndsAs (Err o) before at r after = GaveUpAs o before r after
 
 -- what a call came to that was to write the value of `m`
 pub record PutsAs (m : M Json) (before : List ℕ) (at : ℕ) (r : PutLiteral) (after : List ℕ) : Type 0 where
@@ -117,4 +117,4 @@ abbrev pub PutLiteralDetermined : Type 0
 PutLiteralDetermined =
     (pool names literals : List ℕ) (room row : ℕ) (before : List ℕ) (at : ℕ) (r r' : PutLiteral) (after after' : List ℕ)
     → PutsLiteral pool names literals room row before at r after → PutsLiteral pool names literals room row before at r' after'
-    → (r ≡ r') × (length after ≡ length after') × ((end : ℕ) → r ≡ At end → after ≡ after')
+    → (r ≡ r') × (length after ≡ length after') × ((end : ℕ) → r ≡ Ok end → after ≡ after')

@@ -13,29 +13,25 @@ use Rattle.graphql.specs.Run.{Choices, M, pure, halt}
 use Rattle.graphql.specs.Json.{Json, print}
 use Rattle.graphql.specs.Lookup.{rows_in}
 use Rattle.graphql.specs.Values.{array_of, object_of, node_value}
-use Rattle.values.specs.declared.node.Put.{Put}
-use Rattle.values.specs.declared.node.Put.TheVariants.{At, TooFar}
 use Rattle.values.specs.declared.node.Parts.{Parts}
-use Rattle.values.specs.declared.node.Shape.{Shape}
-use Rattle.values.specs.declared.node.Shape.TheVariants.{Plain, Container}
 
--- a container and its parts, or neither
-abbrev pub shape_of : Node → Shape
-shape_of node.Null = Plain
-shape_of node.False = Plain
-shape_of node.True = Plain
-shape_of (node.Natural low high) = Plain
-shape_of (node.Negative low high) = Plain
-shape_of (node.Float text) = Plain
-shape_of (node.String text) = Plain
-shape_of (node.Array rows) = Container (record { keyed = false; rows = rows })
-shape_of (node.Object rows) = Container (record { keyed = true; rows = rows })
-shape_of node.Unknown = Plain
+-- the parts of a container, and of nothing else
+abbrev pub shape_of : Node → Option Parts
+shape_of node.Null = None
+shape_of node.False = None
+shape_of node.True = None
+shape_of (node.Natural low high) = None
+shape_of (node.Negative low high) = None
+shape_of (node.Float text) = None
+shape_of (node.String text) = None
+shape_of (node.Array rows) = Some (record { keyed = false; rows = rows })
+shape_of (node.Object rows) = Some (record { keyed = true; rows = rows })
+shape_of node.Unknown = None
 
 -- What the walk through nodes rests on, and lawful tables give: the parts of a container are among the first 4,096 rows, so that their numbers are
 -- words.
 pub record Parted (nodes : List ℕ) : Type 0 where
-  pub within : (row : ℕ) (parts : Parts) → shape_of (node_at nodes row) ≡ Container parts → parts.rows.first + parts.rows.count ≤ most_nodes
+  pub within : (row : ℕ) (parts : Parts) → shape_of (node_at nodes row) ≡ Some parts → parts.rows.first + parts.rows.count ≤ most_nodes
 
 -- ---- The text around the parts. The bytes: comma 44, colon 58, [ 91, ] 93, { 123, } 125.
 
@@ -59,15 +55,19 @@ unfoldable pub ended : Option Json → M Json
 ended None = halt too_far
 ended (Some j) = pure j
 
+-- the position after what was written; none where it was too far
+abbrev pub Put : Type 0
+Put = Option ℕ
+
 -- the text of the value was written from `at` on, and the position is the one after it
 pub record PutsText (j : Json) (before : List ℕ) (at : ℕ) (r : Put) (after : List ℕ) : Type 0 where
   pub end : ℕ
-  pub is : r ≡ At end
+  pub is : r ≡ Some end
   pub writes : Writes before after at end (print j)
 
 -- it was too far: the buffer is as long as it was, and what stands in it is nobody's
 pub record GaveUp (before : List ℕ) (r : Put) (after : List ℕ) : Type 0 where
-  pub is : r ≡ TooFar
+  pub is : r ≡ None
   pub long : length after ≡ length before
 
 abbrev pub Ends : Option Json → (before : List ℕ) (at : ℕ) (r : Put) (after : List ℕ) → Type 0
@@ -106,4 +106,4 @@ abbrev pub PutNodeDetermined : Type 0
 PutNodeDetermined =
     (pool nodes : List ℕ) (room row : ℕ) (before : List ℕ) (at : ℕ) (r r' : Put) (after after' : List ℕ)
     → PutsNode pool nodes room row before at r after → PutsNode pool nodes room row before at r' after'
-    → (r ≡ r') × (length after ≡ length after') × ((end : ℕ) → r ≡ At end → after ≡ after')
+    → (r ≡ r') × (length after ≡ length after') × ((end : ℕ) → r ≡ Some end → after ≡ after')

@@ -9,7 +9,7 @@ use crate::plain::integer;
 use rows::json::{Literal, Node, literal_at, node_at};
 
 // An integer that fits 32 bits, signed, is an int; another that fits 64 bits, signed, a long; and a larger one is huge.
-#[derive(Clone, Copy)]
+#[derive(Clone, Copy, PartialEq, Eq)]
 pub enum Sort {
     Null,
     Boolean,

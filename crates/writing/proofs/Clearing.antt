@@ -1,41 +1,27 @@
--- The loop that clears a buffer from a position on: at its head zeros are written from there to i, and at its end to the buffer's end. From a position
--- past the end it does nothing. Assumes nothing.
-use mathlib.Core.Path.{◌≡◌, sym, ◌∙◌}
-use mathlib.Core.List.{List, append-nil}
-use Prim.Native.Nat.{ℕ, ◌+◌, ◌-◌, ◌≤◌, ◌<◌}
+-- What a function that gives the same each time leaves of a buffer, from a position on. Assumes nothing.
+use mathlib.Core.Path.{◌≡◌, refl, ◌∙◌}
+use mathlib.Core.List.{List, [], ◌∷◌, append-nil}
+use Prim.Native.Nat.{ℕ, ◌-◌, ◌≤◌}
 use native.Mathlib.Omega.{arith}
-use native.Mathlib.Decide.{dec_le}
-use lib.ListN.{length, take, set, replicate, replicate-append-replicate}
-use lib.Seq.{take_all}
-use Rattle.writing.specs.Wrote.{Wrote, zeroed_from}
-use Rattle.writing.proofs.WroteLaws.{stay, «then», one}
+use lib.ListN.{length, take, drop, replicate, length-take, length-drop, drop_of_length-le}
+use Rattle.std.specs.List.{FoldsTo}
+use borrow.Rule.Slice.PartMut.{put_mid}
+use Rattle.writing.specs.Wrote.{filled_from}
 
-pub record Clearing (before : List ℕ) (from : ℕ) (after : List ℕ) (i : ℕ) : Type 0 where
-  pub up : from ≤ i
-  pub within : i ≤ from + (length before - from)
-  pub wrote : Wrote before after from i (replicate (i - from) 0)
+-- a list of results that are all the same
+same_results : {A F : Type 0} (step : F → A → F → Type 0) (blank : A) → ((f g : F) (x : A) → step f x g → x ≡ blank) → (xs : List A) (f g : F)
+    → FoldsTo step f xs g → xs ≡ replicate (length xs) blank
+same_results step blank h [] f g ran = refl
+same_results step blank h (x ∷ xs) f g ran =
+    let here : x ≡ blank = h f ran.0 x ran.1 in
+    let later : xs ≡ replicate (length xs) blank = same_results step blank h xs ran.0 g ran.2 in
+    λ i. here i ∷ later i
 
-pub clear_begin : (d : List ℕ) (from : ℕ) → Clearing d from d from
-clear_begin d from =
-    let e : from - from ≡ 0 = omega arith in
-    record { up = omega arith; within = omega arith; wrote = rw e (stay d from) }
-
-pub clear_again : {d d' : List ℕ} {from i : ℕ} → Clearing d from d' i → i < length d' → Clearing d from (set d' i 0) (i + 1)
-clear_again {d} {d'} {from} {i} g h =
-    let e : i + 1 - from ≡ i - from + 1 = omega (arith, g.up) in
-    record {
-      up = omega (arith, g.up);
-      within = omega (arith, g.wrote.long);
-      wrote = rw (e, ← (replicate-append-replicate {A = ℕ} (i - from) 1 0)) («then» g.wrote (one d' i 0 h));
-    }
-
-pub clear_end : {d d' : List ℕ} {from i : ℕ} → Clearing d from d' i → length d' ≤ i → d' ≡ zeroed_from from d
-clear_end {d} {d'} {from} {i} g h = go (dec_le from (length d))
-  where
-    go : Dec (from ≤ length d) → d' ≡ zeroed_from from d
-    go (yes p) =
-        let e : i ≡ length d = omega (arith, g.wrote.long, g.within) in
-        sym (take_all i d' h) ∙ g.wrote.shown (omega arith) ∙ rw e
-    go (no p) =
-        let e : length d - from ≡ 0 = omega arith in
-        sym (take_all from d' (omega (arith, g.wrote.long))) ∙ g.wrote.kept ∙ rw e (sym (append-nil (take from d)))
+-- a buffer whose part behind the position is such a list
+pub filled : {A F : Type 0} (step : F → A → F → Type 0) (blank : A) → ((f g : F) (x : A) → step f x g → x ≡ blank)
+    → (t part : List A) (from : ℕ) (f g : F) → from ≤ length t → length part ≡ length (take (length t - from) (drop from t)) → FoldsTo step f part g
+    → put_mid from (length t - from) t part ≡ filled_from blank from t
+filled step blank h t part from f g inside long ran =
+    let size : length part ≡ length t - from = long ∙ simp length-take (simp length-drop (omega arith)) in
+    let over : drop (length t - from) (drop from t) ≡ [] = drop_of_length-le (drop from t) (simp length-drop (omega arith)) in
+    rw (over, append-nil, same_results step blank h part f g ran, size) refl

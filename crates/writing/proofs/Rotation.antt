@@ -2,6 +2,7 @@
 -- the second before the first, since a reversal of x and then y is y's reversal and then x's. Assumes nothing.
 use mathlib.Core.Path.{◌≡◌, refl, sym, ap, ◌∙◌}
 use mathlib.Core.Bool.{and-false}
+use mathlib.Core.Logic.{◌⊎◌, ⊎_elim}
 use mathlib.Core.List.{List, ◌++◌, append_assoc}
 use Prim.Native.Nat.{ℕ, suc, ◌+◌, ◌-◌, ◌≤◌, ◌<◌, min}
 use native.Mathlib.Omega.{arith}
@@ -144,17 +145,16 @@ module _ (t : List ℕ) (a m e : ℕ) where
     moves = λ b xs ys zs s w h. turned_in a m xs ys zs w h h₃ q;
   }
 
-  -- the first is after the second
-  pub moves_not_low : e ≤ length t → m < a → Moves t a m e t
+  -- one of these is not so
+  pub moves_not : ((e ≤ length t) × (m ≤ e) × (m < a)) ⊎ (((e ≤ length t) × (e < m)) ⊎ (length t < e)) → Moves t a m e t
   unfolding turned_into_place
-  moves_not_low h k = record { exact = simp (lt-leb a m k); moves = λ b xs ys zs s w l. not_low a m xs ys zs w l h k }
-
-  -- the second is after the third
-  pub moves_not_far : e ≤ length t → e < m → Moves t a m e t
-  unfolding turned_into_place
-  moves_not_far h k = record { exact = simp (lt-leb m e k, and-false); moves = λ b xs ys zs s w l. not_far a m xs ys zs w l h k }
-
-  -- the third is past the end
-  pub moves_not_over : length t < e → Moves t a m e t
-  unfolding turned_into_place
-  moves_not_over k = record { exact = simp (lt-leb e (length t) k, and-false); moves = λ b xs ys zs s w l. turned_over a m xs ys zs w l k }
+  moves_not h = record {
+    exact = ⊎_elim
+        (λ k. simp (lt-leb a m k.2))
+        (⊎_elim (λ k. simp (lt-leb m e k.1, and-false)) (λ k. simp (lt-leb e (length t) k, and-false)))
+        h;
+    moves = λ b xs ys zs s w l. ⊎_elim
+        (λ k. not_low a m xs ys zs w l k.0 k.2)
+        (⊎_elim (λ k. not_far a m xs ys zs w l k.0 k.1) (λ k. turned_over a m xs ys zs w l k))
+        h;
+  }

@@ -14,15 +14,15 @@ use Rattle.writing.specs.Wrote.{Wrote, bracketed}
 -- ---- one step
 
 -- Nothing was written: where a loop that writes begins.
-pub stay : (t : List ℕ) (a : ℕ) → Wrote t t a a []
+pub stay : {A : Type 0} (t : List A) (a : ℕ) → Wrote t t a a []
 stay t a = record { long = refl; moved = omega arith; kept = refl; shown = λ h. sym (append-nil (take a t)) }
 
 -- Going back: whatever was written from `a` on is forgotten by taking `a` as the position again.
-pub back : {t t' : List ℕ} {a a' : ℕ} {x : List ℕ} → Wrote t t' a a' x → Wrote t t' a a []
-back {t} {t'} {a} w = record { long = w.long; moved = omega arith; kept = w.kept; shown = λ h. w.kept ∙ sym (append-nil (take a t)) }
+pub back : {A : Type 0} {t t' : List A} {a a' : ℕ} {x : List A} → Wrote t t' a a' x → Wrote t t' a a []
+back {A} {t} {t'} {a} w = record { long = w.long; moved = omega arith; kept = w.kept; shown = λ h. w.kept ∙ sym (append-nil (take a t)) }
 
 -- One element, where there is room for it.
-pub one : (t : List ℕ) (a b : ℕ) → a < length t → Wrote t (set t a b) a (a + 1) (b ∷ [])
+pub one : {A : Type 0} (t : List A) (a : ℕ) (b : A) → a < length t → Wrote t (set t a b) a (a + 1) (b ∷ [])
 one t a b h = record {
   long = length-set t a b;
   moved = refl;
@@ -31,47 +31,47 @@ one t a b h = record {
 }
 
 -- One element, where there is no room: the position says so.
-pub past : (t : List ℕ) (a b : ℕ) → length t ≤ a → Wrote t t a (length t + 1) (b ∷ [])
+pub past : {A : Type 0} (t : List A) (a : ℕ) (b : A) → length t ≤ a → Wrote t t a (length t + 1) (b ∷ [])
 past t a b h = record { long = refl; moved = omega arith; kept = refl; shown = λ k. absurd (omega arith) }
 
 -- Where a text did not fit, any other that does not fit may be said to have been written.
-pub over : {t t' : List ℕ} {a a' : ℕ} {x : List ℕ} (y : List ℕ) → Wrote t t' a a' x → length t < a' → length t < a + length y → Wrote t t' a a' y
+pub over : {A : Type 0} {t t' : List A} {a a' : ℕ} {x : List A} (y : List A) → Wrote t t' a a' x → length t < a' → length t < a + length y → Wrote t t' a a' y
 over y w h k = record { long = w.long; moved = omega arith; kept = w.kept; shown = λ q. absurd (omega arith) }
 
 -- What was written, by another name: how a writer's cases become the cases of a definition.
-pub same : {t t' : List ℕ} {a a' : ℕ} {x y : List ℕ} → x ≡ y → Wrote t t' a a' x → Wrote t t' a a' y
+pub same : {A : Type 0} {t t' : List A} {a a' : ℕ} {x y : List A} → x ≡ y → Wrote t t' a a' x → Wrote t t' a a' y
 same e w = rw e at w
 
 -- The first element is written again: how a comma becomes a bracket.
-pub first : {t t' : List ℕ} {a a' x : ℕ} {xs : List ℕ} (b : ℕ) → Wrote t t' a a' (x ∷ xs) → Wrote t (set t' a b) a a' (b ∷ xs)
-first {t} {t'} {a} {a'} {x} {xs} b w = record {
+pub first : {A : Type 0} {t t' : List A} {a a' : ℕ} {x : A} {xs : List A} (b : A) → Wrote t t' a a' (x ∷ xs) → Wrote t (set t' a b) a a' (b ∷ xs)
+first {A} {t} {t'} {a} {a'} {x} {xs} b w = record {
   long = length-set t' a b ∙ w.long;
   moved = w.moved;
   kept = take-set-le a t' a b (le_refl a) ∙ w.kept;
   shown = λ h.
       let l : a < a' = omega (arith, w.moved) in
       let k : length (take a t) ≡ a = length-take-le a t (omega arith) in
-      take-set-lt a' t' a b l ∙ ap (λ (l : List ℕ). set l a b) (w.shown h) ∙ set_at (take a t) x xs b a k;
+      take-set-lt a' t' a b l ∙ ap (λ (l : List A). set l a b) (w.shown h) ∙ set_at (take a t) x xs b a k;
 }
 
 -- ---- whether it fitted
 
 -- A position within the buffer is exact: so many elements on as were written.
-pub exact : {t t' : List ℕ} {a a' : ℕ} {x : List ℕ} → Wrote t t' a a' x → a' ≤ length t → a' ≡ a + length x
+pub exact : {A : Type 0} {t t' : List A} {a a' : ℕ} {x : List A} → Wrote t t' a a' x → a' ≤ length t → a' ≡ a + length x
 exact w h = omega (arith, w.moved)
 
 -- What there is room for ends within the buffer.
-pub fits : {t t' : List ℕ} {a a' : ℕ} {x : List ℕ} → Wrote t t' a a' x → a + length x ≤ length t → a' ≤ length t
+pub fits : {A : Type 0} {t t' : List A} {a a' : ℕ} {x : List A} → Wrote t t' a a' x → a + length x ≤ length t → a' ≤ length t
 fits w h = omega (arith, w.moved)
 
 -- What there is no room for ends past it.
-pub short : {t t' : List ℕ} {a a' : ℕ} {x : List ℕ} → Wrote t t' a a' x → length t < a + length x → length t < a'
+pub short : {A : Type 0} {t t' : List A} {a a' : ℕ} {x : List A} → Wrote t t' a a' x → length t < a + length x → length t < a'
 short w h = omega (arith, w.moved)
 
 -- ---- one step after another
 
 -- what stands before `a` stays where what stands before `a'` does, `a'` being further on or past the end
-hold : (t' t'' : List ℕ) (a a' : ℕ) → length t'' ≡ length t' → min a (suc (length t')) ≤ a' → take a' t'' ≡ take a' t' → take a t'' ≡ take a t'
+hold : {A : Type 0} (t' t'' : List A) (a a' : ℕ) → length t'' ≡ length t' → min a (suc (length t')) ≤ a' → take a' t'' ≡ take a' t' → take a t'' ≡ take a t'
 hold t' t'' a a' l h e = go (dec_le a a')
   where
     go : Dec (a ≤ a') → take a t'' ≡ take a t'
@@ -81,16 +81,16 @@ hold t' t'' a a' l h e = go (dec_le a a')
         ap (take a) (sym (take_all a' t'' (omega arith)) ∙ e ∙ take_all a' t' q)
 
 -- What is written where the last step ended comes after what that step wrote.
-pub «then» : {t t' t'' : List ℕ} {a a' a'' : ℕ} {x y : List ℕ} → Wrote t t' a a' x → Wrote t' t'' a' a'' y → Wrote t t'' a a'' (x ++ y)
-«then» {t} {t'} {t''} {a} {a'} {a''} {x} {y} w v = record {
+pub «then» : {A : Type 0} {t t' t'' : List A} {a a' a'' : ℕ} {x y : List A} → Wrote t t' a a' x → Wrote t' t'' a' a'' y → Wrote t t'' a a'' (x ++ y)
+«then» {A} {t} {t'} {t''} {a} {a'} {a''} {x} {y} w v = record {
   long = v.long ∙ w.long;
   moved = simp length-append (omega arith);
   kept = hold t' t'' a a' v.long (omega arith) v.kept ∙ w.kept;
-  shown = λ h. v.shown (omega arith) ∙ ap (λ (l : List ℕ). l ++ y) (w.shown (omega arith)) ∙ append_assoc (take a t) x y;
+  shown = λ h. v.shown (omega arith) ∙ ap (λ (l : List A). l ++ y) (w.shown (omega arith)) ∙ append_assoc (take a t) x y;
 }
 
 -- The same where the first step wrote one element: a list that is written element by element is put together by this.
-pub cons : {t t' t'' : List ℕ} {a a' a'' b : ℕ} {y : List ℕ} → Wrote t t' a a' (b ∷ []) → Wrote t' t'' a' a'' y → Wrote t t'' a a'' (b ∷ y)
+pub cons : {A : Type 0} {t t' t'' : List A} {a a' a'' : ℕ} {b : A} {y : List A} → Wrote t t' a a' (b ∷ []) → Wrote t' t'' a' a'' y → Wrote t t'' a a'' (b ∷ y)
 cons w v = «then» w v
 
 -- ---- brackets: where `close` finds that nothing was written, and where it finds that something was

@@ -1,52 +1,51 @@
 -- The definitions of writing, at work. A text is a list of bytes: 44 is the comma, 48 the digit 0.
-use Rattle.std.specs.Prelude.{◌≡◌, refl, [], ◌∷◌}
-use Rattle.std.proofs.Math.Seq.{slice}
+use Rattle.std.specs.Prelude.{◌≡◌, refl, [], ◌∷◌, ℕ}
 use Rattle.writing.specs.Wrote.{written, saturated, bracketed, closed, closed_end, turned_into_place, zeroed_from}
 
 -- ---- a buffer of three, and what is laid over it
 
 -- where there is room for more than that
-room : written (7 ∷ 8 ∷ 9 ∷ []) 0 (1 ∷ 2 ∷ []) ≡ 1 ∷ 2 ∷ 9 ∷ []
+room : written {A = ℕ} (7 ∷ 8 ∷ 9 ∷ []) 0 (1 ∷ 2 ∷ []) ≡ 1 ∷ 2 ∷ 9 ∷ []
 unfolding written
 room = refl
 
-room_position : saturated (7 ∷ 8 ∷ 9 ∷ []) 0 (1 ∷ 2 ∷ []) ≡ 2
+room_position : saturated {A = ℕ} (7 ∷ 8 ∷ 9 ∷ []) 0 (1 ∷ 2 ∷ []) ≡ 2
 unfolding saturated
 room_position = refl
 
 -- just enough: the position is the length
-fitting : written (7 ∷ 8 ∷ 9 ∷ []) 1 (1 ∷ 2 ∷ []) ≡ 7 ∷ 1 ∷ 2 ∷ []
+fitting : written {A = ℕ} (7 ∷ 8 ∷ 9 ∷ []) 1 (1 ∷ 2 ∷ []) ≡ 7 ∷ 1 ∷ 2 ∷ []
 unfolding written
 fitting = refl
 
-fitting_position : saturated (7 ∷ 8 ∷ 9 ∷ []) 1 (1 ∷ 2 ∷ []) ≡ 3
+fitting_position : saturated {A = ℕ} (7 ∷ 8 ∷ 9 ∷ []) 1 (1 ∷ 2 ∷ []) ≡ 3
 unfolding saturated
 fitting_position = refl
 
 -- too short: as much as fits, and the position is one past the end, whatever is missing
-too_short : written (7 ∷ 8 ∷ 9 ∷ []) 2 (1 ∷ 2 ∷ 3 ∷ 4 ∷ []) ≡ 7 ∷ 8 ∷ 1 ∷ []
+too_short : written {A = ℕ} (7 ∷ 8 ∷ 9 ∷ []) 2 (1 ∷ 2 ∷ 3 ∷ 4 ∷ []) ≡ 7 ∷ 8 ∷ 1 ∷ []
 unfolding written
 too_short = refl
 
-too_short_position : saturated (7 ∷ 8 ∷ 9 ∷ []) 2 (1 ∷ 2 ∷ 3 ∷ 4 ∷ []) ≡ 4
+too_short_position : saturated {A = ℕ} (7 ∷ 8 ∷ 9 ∷ []) 2 (1 ∷ 2 ∷ 3 ∷ 4 ∷ []) ≡ 4
 unfolding saturated
 too_short_position = refl
 
 -- from past the end: nothing, and the position comes back to one past it
-past_the_end : written (7 ∷ 8 ∷ 9 ∷ []) 6 (1 ∷ []) ≡ 7 ∷ 8 ∷ 9 ∷ []
+past_the_end : written {A = ℕ} (7 ∷ 8 ∷ 9 ∷ []) 6 (1 ∷ []) ≡ 7 ∷ 8 ∷ 9 ∷ []
 unfolding written
 past_the_end = refl
 
-past_the_end_position : saturated (7 ∷ 8 ∷ 9 ∷ []) 6 (1 ∷ []) ≡ 4
+past_the_end_position : saturated {A = ℕ} (7 ∷ 8 ∷ 9 ∷ []) 6 (1 ∷ []) ≡ 4
 unfolding saturated
 past_the_end_position = refl
 
 -- nothing is laid over: all stays, the position too
-nothing : written (7 ∷ 8 ∷ 9 ∷ []) 6 [] ≡ 7 ∷ 8 ∷ 9 ∷ []
+nothing : written {A = ℕ} (7 ∷ 8 ∷ 9 ∷ []) 6 [] ≡ 7 ∷ 8 ∷ 9 ∷ []
 unfolding written
 nothing = refl
 
-nothing_position : saturated (7 ∷ 8 ∷ 9 ∷ []) 6 [] ≡ 6
+nothing_position : saturated {A = ℕ} (7 ∷ 8 ∷ 9 ∷ []) 6 [] ≡ 6
 unfolding saturated
 nothing_position = refl
 
@@ -85,7 +84,7 @@ closed_short_position = refl
 
 -- the last two of four go before the second; and nothing moves where the end is past the buffer's
 turned : turned_into_place 1 2 4 (5 ∷ 6 ∷ 7 ∷ 8 ∷ []) ≡ 5 ∷ 7 ∷ 8 ∷ 6 ∷ []
-unfolding slice turned_into_place
+unfolding turned_into_place
 turned = refl
 
 not_turned : turned_into_place 1 2 5 (5 ∷ 6 ∷ 7 ∷ 8 ∷ []) ≡ 5 ∷ 6 ∷ 7 ∷ 8 ∷ []

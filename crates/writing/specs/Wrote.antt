@@ -1,28 +1,28 @@
--- What a step that writes at a position does to a buffer, of bytes or of words: `Writes` is what every writer ensures.
+-- What a step that writes at a position does to a buffer, whatever its elements are: `Writes` is what every writer ensures.
 use Rattle.std.specs.Prelude.{◌≡◌, cond, ◌&&◌, List, [], ◌∷◌, ◌++◌, ℕ, suc, ◌+◌, ◌-◌, ◌≤◌, min, length, take, drop, replicate, leb, eqb}
 use Rattle.std.proofs.Math.Seq.{slice}
 
 -- From the position `at` to `at'`, `out` was written. A position past the buffer's end says only that what was to be written did not fit: all such
 -- positions count as one. What stands before `at` stays in any case, so that a writer can go back to `at` and write something else.
-pub record Wrote (before after : List ℕ) (at at' : ℕ) (out : List ℕ) : Type 0 where
+pub record Wrote {A : Type 0} (before after : List A) (at at' : ℕ) (out : List A) : Type 0 where
   pub long : length after ≡ length before
   pub moved : min at' (suc (length before)) ≡ min (at + length out) (suc (length before))
   pub kept : take at after ≡ take at before
   pub shown : at' ≤ length before → take at' after ≡ take at before ++ out
 
 -- The same buffer with `out` laid over it from `at` on, as much of it as there is room for. From a position past the end there is room for nothing.
-unfoldable pub written : List ℕ → ℕ → List ℕ → List ℕ
+unfoldable pub written : {A : Type 0} → List A → ℕ → List A → List A
 written text at out = take at text ++ (take (length text - at) out ++ drop (at + length out) text)
 
 -- The position after that: on by as many elements as `out` has, to one past the end and no further. Where nothing is written the position stays,
 -- wherever it is.
-unfoldable pub saturated : List ℕ → ℕ → List ℕ → ℕ
+unfoldable pub saturated : {A : Type 0} → List A → ℕ → List A → ℕ
 saturated text at [] = at
 saturated text at (b ∷ out) = min (at + suc (length out)) (suc (length text))
 
 -- What every writer ensures: the buffer and the position after it, exactly. That `out` was written follows, and is what a caller needs who asks for no
 -- more than the text.
-pub record Writes (text text' : List ℕ) (at at' : ℕ) (out : List ℕ) : Type 0 where
+pub record Writes {A : Type 0} (text text' : List A) (at at' : ℕ) (out : List A) : Type 0 where
   pub exact : text' ≡ written text at out
   pub moved : at' ≡ saturated text at out
   pub wrote : Wrote text text' at at' out
@@ -62,6 +62,10 @@ pub record Moves (before : List ℕ) (a b e : ℕ) (after : List ℕ) : Type 0 w
   pub moves : (origin xs ys zs : List ℕ) (start : ℕ) → Wrote origin before start e (xs ++ (ys ++ zs))
       → (e ≤ length before → (a ≡ start + length xs) × (b ≡ start + length xs + length ys)) → Wrote origin after start e (xs ++ (zs ++ ys))
 
--- The same buffer with 0 everywhere from `from` on.
+-- The same buffer with `blank` everywhere from `from` on.
+abbrev pub filled_from : {A : Type 0} → A → ℕ → List A → List A
+filled_from blank from before = take from before ++ replicate (length before - from) blank
+
+-- Of bytes or words, with 0.
 abbrev pub zeroed_from : ℕ → List ℕ → List ℕ
-zeroed_from from before = take from before ++ replicate (length before - from) 0
+zeroed_from from before = filled_from 0 from before

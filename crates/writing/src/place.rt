@@ -1,7 +1,8 @@
 // What was written is finished: it gets its brackets, goes to its place among what was written before it, or is cleared.
 ghost use Rattle.std.specs.Prelude.{◌≡◌, ◌≤◌, length};
-ghost use Rattle.writing.specs.Wrote.{Closes, Moves, rotated, zeroed_from};
+ghost use Rattle.writing.specs.Wrote.{Closes, Moves, rotated, filled_from};
 
+use crate::element::Element;
 use crate::write::put;
 
 // Entries, each written with a comma before it, get their brackets: the first comma is where the left one goes.
@@ -18,7 +19,8 @@ pub fn close(text: &mut [u8], start: usize, at: usize, left: u8, right: u8) -> u
     put(text, at, right)
 }
 
-// The bytes from b to e go before those from a to b: both runs are turned round, and then all of it.
+// The bytes from b to e go before those from a to b: both runs are turned round, and then all of it. The library's `rotate_left`
+// keeps 4,096 bytes of the stack for what waits, and no level of a walk has so much.
 fn rotate(text: &mut [u8], a: usize, b: usize, e: usize)
     requires { (a ≤ b) × (b ≤ e) × (e ≤ length text.old) }
     ensures { text.new ≡ rotated a b e text.old }
@@ -32,29 +34,16 @@ fn rotate(text: &mut [u8], a: usize, b: usize, e: usize)
 pub fn turn_into_place(text: &mut [u8], a: usize, b: usize, e: usize)
     ensures { Moves text.old a b e text.new }
 {
-    if e <= text.len() {
-        if b <= e {
-            if a <= b {
-                rotate(text, a, b, e);
-            }
-        }
+    if e <= text.len() && b <= e && a <= b {
+        rotate(text, a, b, e);
     }
 }
 
-// All bytes from `from` on become 0.
-pub fn clear(text: &mut [u8], from: usize)
-    ensures { text.new ≡ zeroed_from from text.old }
+// All elements from `from` on become 0.
+pub fn clear<T: Element>(buffer: &mut [T], from: usize)
+    ensures { buffer.new ≡ filled_from T.ZERO from buffer.old }
 {
-    for i in from..text.len() {
-        text[i] = 0;
-    }
-}
-
-// All words from `from` on become 0.
-pub fn clear_words(words: &mut [u32], from: usize)
-    ensures { words.new ≡ zeroed_from from words.old }
-{
-    for i in from..words.len() {
-        words[i] = 0;
+    if from < buffer.len() {
+        buffer[from..].fill_with(|| T::ZERO);
     }
 }

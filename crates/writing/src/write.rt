@@ -1,16 +1,19 @@
-// Bytes put into a buffer, one or a run. What a position means is said at `Wrote`, and what is put at `Writes`, both in specs/Wrote.antt.
+// What is put into a buffer, one element or a run. What a position means is said at `Wrote`, and what is put at `Writes`, both in
+// specs/Wrote.antt.
 ghost use Rattle.std.specs.Prelude.{◌≡◌, [], ◌∷◌, ◌+◌, ◌≤◌, length, take, drop};
 ghost use Rattle.writing.specs.Wrote.{Writes};
 
-// One byte. Past the end the position is the length and one, however often one goes on from there, so it never wraps.
-pub fn put(text: &mut [u8], at: usize, b: u8) -> usize
-    ensures { Writes text.old text.new at result (b ∷ []) }
+use crate::element::Element;
+
+// One element. Past the end the position is the length and one, however often one goes on from there, so it never wraps.
+pub fn put<T: Element>(buffer: &mut [T], at: usize, item: T) -> usize
+    ensures { Writes buffer.old buffer.new at result (item ∷ []) }
 {
-    if at < text.len() {
-        text[at] = b;
+    if at < buffer.len() {
+        buffer[at] = item;
         at + 1
     } else {
-        text.len() + 1
+        T::past_end(buffer)
     }
 }
 
@@ -18,14 +21,8 @@ pub fn put(text: &mut [u8], at: usize, b: u8) -> usize
 pub fn put_four(text: &mut [u8], at: usize, a: u8, b: u8, c: u8, d: u8) -> usize
     ensures { Writes text.old text.new at result (a ∷ b ∷ c ∷ d ∷ []) }
 {
-    if at < text.len() {
-        if 4 <= text.len() - at {
-            text[at] = a;
-            text[at + 1] = b;
-            text[at + 2] = c;
-            text[at + 3] = d;
-            return at + 4;
-        }
+    if at < text.len() && 4 <= text.len() - at {
+        return put_fitting(text, at, &[a, b, c, d]);
     }
     let second = put(text, at, a);
     let third = put(text, second, b);
@@ -33,17 +30,14 @@ pub fn put_four(text: &mut [u8], at: usize, a: u8, b: u8, c: u8, d: u8) -> usize
     put(text, fourth, d)
 }
 
-// A run of bytes that fits. No turn of the loop asks for room, so the compiler makes it take many bytes in a step.
+// A run of bytes that fits.
 pub fn put_fitting(text: &mut [u8], at: usize, s: &[u8]) -> usize
     requires { at + length s.now ≤ length text.old }
     ensures { Writes text.old text.new at result s.now }
 {
-    let mut i = 0;
-    while i < s.len() {
-        text[at + i] = s[i];
-        i += 1;
-    }
-    at + i
+    let end = at + s.len();
+    text[at..end].copy_from_slice(s);
+    end
 }
 
 // A run of bytes, each asking for its own room.
@@ -51,66 +45,46 @@ fn put_each(text: &mut [u8], at: usize, s: &[u8]) -> usize
     ensures { Writes text.old text.new at result s.now }
 {
     let mut next = at;
-    for i in 0..s.len() {
-        next = put(text, next, s[i]);
+    for b in s {
+        next = put(text, next, *b);
     }
     next
 }
 
-// Eight bytes of a run. Read into an array of their own they are known to lie apart from the text, and are written in one step.
-pub fn eight_at(s: &[u8], from: usize) -> [u8; 8]
-    requires { from + 8 ≤ length s.now }
-    ensures { result ≡ take 8 (drop from s.now) }
+// `N` bytes of a run. Read into an array of their own they are known to lie apart from the text, and are written in one step.
+pub fn bytes_at<const N: usize>(s: &[u8], from: usize) -> [u8; N]
+    requires { from + N ≤ length s.now }
+    ensures { result ≡ take N (drop from s.now) }
 {
-    let mut block = [0u8; 8];
-    for i in 0..8 {
-        block[i] = s[from + i];
-    }
+    let mut block = [0; N];
+    block.copy_from_slice(&s[from..from + N]);
     block
 }
 
-// Eight to sixteen bytes that fit: the first eight and the last eight, whatever they have in common.
-fn put_eights(text: &mut [u8], at: usize, s: &[u8]) -> usize
+// `N` bytes to twice as many that fit: the first `N` and the last `N`, whatever they have in common.
+fn put_lapped<const N: usize>(text: &mut [u8], at: usize, s: &[u8]) -> usize
     requires s_in_bounds { at + length s.now ≤ length text.old }
-    requires in_bounds { (8 ≤ length s.now) × (length s.now ≤ 16) }
+    requires in_bounds { (N ≤ length s.now) × (length s.now ≤ N + N) }
     ensures { Writes text.old text.new at result s.now }
 {
-    let rest = s.len() - 8;
-    let first = eight_at(s, 0);
-    let last = eight_at(s, rest);
+    let rest = s.len() - N;
+    let first: [u8; N] = bytes_at(s, 0);
+    let last: [u8; N] = bytes_at(s, rest);
     put_fitting(text, at, &first);
     put_fitting(text, at + rest, &last)
 }
 
-// Four to eight bytes that fit: the first four and the last four.
-fn put_fours(text: &mut [u8], at: usize, s: &[u8]) -> usize
-    requires s_in_bounds { at + length s.now ≤ length text.old }
-    requires in_bounds { (4 ≤ length s.now) × (length s.now ≤ 8) }
-    ensures { Writes text.old text.new at result s.now }
-{
-    let rest = s.len() - 4;
-    put_four(text, at, s[0], s[1], s[2], s[3]);
-    put_four(
-        text,
-        at + rest,
-        s[rest],
-        s[rest + 1],
-        s[rest + 2],
-        s[rest + 3],
-    )
-}
-
-// At most sixteen bytes that fit. Its two ways are functions of their own because a proof's time grows faster than its function.
+// At most sixteen bytes that fit.
 fn put_few(text: &mut [u8], at: usize, s: &[u8]) -> usize
     requires s_in_bounds { at + length s.now ≤ length text.old }
     requires s_len_bound { length s.now ≤ 16 }
     ensures { Writes text.old text.new at result s.now }
 {
     if 8 <= s.len() {
-        return put_eights(text, at, s);
+        return put_lapped::<8>(text, at, s);
     }
     if 4 <= s.len() {
-        return put_fours(text, at, s);
+        return put_lapped::<4>(text, at, s);
     }
     put_each(text, at, s)
 }
@@ -119,13 +93,11 @@ fn put_few(text: &mut [u8], at: usize, s: &[u8]) -> usize
 pub fn put_all(text: &mut [u8], at: usize, s: &[u8]) -> usize
     ensures { Writes text.old text.new at result s.now }
 {
-    if at < text.len() {
-        if s.len() <= text.len() - at {
-            if s.len() <= 16 {
-                return put_few(text, at, s);
-            }
-            return put_fitting(text, at, s);
+    if at < text.len() && s.len() <= text.len() - at {
+        if s.len() <= 16 {
+            return put_few(text, at, s);
         }
+        return put_fitting(text, at, s);
     }
     put_each(text, at, s)
 }

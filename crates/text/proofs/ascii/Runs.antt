@@ -1,17 +1,17 @@
 -- US-ASCII of a text that grows at its end: by an octet, whose highest bit an `|` keeps, or by a block.
 -- Assumes nothing.
 use mathlib.Core.Path.{◌≡◌, refl, sym, ap, ◌∙◌}
-use mathlib.Core.Bool.{Bool, true, false, not, ◌&&◌, and_assoc, and-true}
+use mathlib.Core.Bool.{Bool, true, false, ◌&&◌, and_assoc, and-true}
 use mathlib.Core.List.{List, [], ◌∷◌, ◌++◌}
 use Prim.Native.Nat.{ℕ, ◌+◌, ◌-◌, ◌≤◌, ◌<◌}
 use native.Mathlib.Nat.{add-mul}
 use native.Mathlib.Numerals.{add-one}
 use native.Mathlib.Omega.{arith}
-use borrow.Author.Tests.{lt-ltb, le-ltb, ltb-true, ltb-false, not-true, not-false}
+use borrow.Author.Tests.{lt-ltb, le-ltb, ltb-true, ltb-false}
 use lib.Dec.{ltb}
 use lib.Bits.{bit_or, or_lt, or_add_and, and_le_l, and_le_r}
-use lib.ListN.{length, get_or, take, drop}
-use lib.Seq.{take-suc, take_all, take-add, drop-drop}
+use lib.ListN.{length, get_or, take, drop, length-append, length-drop}
+use lib.Seq.{take_at, drop_at, take-suc, take_all, take-add, drop-drop}
 use Rattle.text.specs.Ascii.{is_ascii}
 use Rattle.text.specs.Found.{AsciiBlocks, PastAscii}
 
@@ -37,8 +37,8 @@ module _ (s : List ℕ) (gathered i : ℕ) (inv : ltb gathered 0x80 ≡ is_ascii
   gathered_more h =
       rw (add-one, take-suc s i 0, ascii_append, high_kept, inv) (ap (λ (b : Bool). is_ascii (take i s) && b) (sym (and-true (ltb (get_or s i 0) 0x80))))
 
-  pub gathered_all : length s ≤ i → ltb gathered 0x80 ≡ is_ascii s
-  gathered_all h = inv ∙ ap is_ascii (take_all i s h)
+  pub gathered_all : (r : Bool) → length s ≤ i → r ≡ ltb gathered 0x80 → r ≡ is_ascii s
+  gathered_all r h e = e ∙ inv ∙ ap is_ascii (take_all i s h)
 
 pub gathered_none : (s : List ℕ) → ltb 0 0x80 ≡ is_ascii (take 0 s)
 unfolding is_ascii
@@ -57,21 +57,21 @@ module _ (s : List ℕ) (n from at : ℕ) (passed : AsciiBlocks s n from at) whe
   ascii_behind : (next : ℕ) → at ≤ next → is_ascii (take (next - at) (drop at s)) ≡ true → is_ascii (take (next - from) (drop from s)) ≡ true
   ascii_behind next h e = rw (part_join from at next s (omega arith) h, ascii_append, passed.ascii, e)
 
-  pub blocks_more : (r : Bool) → r ≡ is_ascii (take (at + n - at) (drop at s)) → not r ≡ false → n ≤ length s - at → AsciiBlocks s n from (at + n)
+  blocks_more : (r : Bool) → r ≡ is_ascii (take (at + n - at) (drop at s)) → r ≡ true → n ≤ length s - at → AsciiBlocks s n from (at + n)
   blocks_more r e t h =
       record {
         blocks = passed.blocks + 1;
         whole = rw add-mul (omega arith);
         inside = omega arith;
-        ascii = ascii_behind (at + n) (omega arith) (sym e ∙ not-false r t);
+        ascii = ascii_behind (at + n) (omega arith) (sym e ∙ t);
       }
 
-  pub blocks_other : (r : Bool) → r ≡ is_ascii (take (at + n - at) (drop at s)) → not r ≡ true → PastAscii s n from at
+  blocks_other : (r : Bool) → r ≡ is_ascii (take (at + n - at) (drop at s)) → r ≡ false → PastAscii s n from at
   blocks_other r e t =
       let size : at + n - at ≡ n = omega arith in
-      record { passed = passed; stopped = λ h. ap (λ (k : ℕ). is_ascii (take k (drop at s))) (sym size) ∙ sym e ∙ not-true r t }
+      record { passed = passed; stopped = λ h. ap (λ (k : ℕ). is_ascii (take k (drop at s))) (sym size) ∙ sym e ∙ t }
 
-  pub blocks_over : length s - at < n → PastAscii s n from at
+  blocks_over : length s - at < n → PastAscii s n from at
   blocks_over h = record { passed = passed; stopped = λ k. let z : ⊥ = omega arith in absurd z }
 
   -- blocks of another size behind them
@@ -84,11 +84,55 @@ module _ (s : List ℕ) (n from at : ℕ) (passed : AsciiBlocks s n from at) whe
         ascii = ascii_behind next (omega arith) more.ascii;
       }
 
-pub blocks_none : (s : List ℕ) (n from : ℕ) → from ≤ length s → AsciiBlocks s n from from
+blocks_none : (s : List ℕ) (n from : ℕ) → from ≤ length s → AsciiBlocks s n from from
 unfolding is_ascii
 blocks_none s n from h =
     let nothing : from - from ≡ 0 = omega arith in
     record { blocks = 0; whole = omega arith; inside = h; ascii = rw nothing }
+
+-- ---- the loop over the blocks: what is left to it is what stands behind the position
+
+pub record Passing (s : List ℕ) (size from at : ℕ) (left : List ℕ) (step : ℕ) : Type 0 where
+  pub passed : AsciiBlocks s size from at
+  pub behind : left ≡ drop at s
+  pub whole : step ≡ size
+
+pub pass_begin : (s : List ℕ) (size from : ℕ) (left : List ℕ) (step : ℕ) → from ≤ length s
+    → left ≡ take (length s - from) (drop from s) → step ≡ size → Passing s size from from left step
+pass_begin s size from left step h e w =
+    record {
+      passed = blocks_none s size from h;
+      behind = e ∙ take_all (length s - from) (drop from s) (simp length-drop (omega arith));
+      whole = w;
+    }
+
+module _ (s : List ℕ) (size from at : ℕ) (left : List ℕ) (step : ℕ) (g : Passing s size from at left step) where
+  module _ (block left' : List ℕ) (step' : ℕ) (cut : left ≡ block ++ left') (long : length block ≡ step) where
+    room : size ≤ length s - at
+    room = omega (arith, g.whole, long, length-append block left', ap length cut, ap length g.behind, length-drop at s)
+
+    pub pass_fits : at + size ≤ length s
+    pass_fits = omega (arith, room, g.passed.inside)
+
+    here : take size (drop at s) ≡ block
+    here = rw (← g.behind, cut) (take_at block left' size (long ∙ g.whole))
+
+    pub pass_more : (r : Bool) → r ≡ is_ascii block → r ≡ true → step' ≡ step → Passing s size from (at + size) left' step'
+    pass_more r e t w =
+        let n : at + size - at ≡ size = omega arith in
+        record {
+          passed = blocks_more s size from at g.passed r (rw (n, here) e) t room;
+          behind = sym (drop_at block left' size (long ∙ g.whole)) ∙ ap (drop size) (sym cut ∙ g.behind) ∙ drop-drop size at s;
+          whole = w ∙ g.whole;
+        }
+
+    pub pass_other : (r : Bool) → r ≡ is_ascii block → r ≡ false → PastAscii s size from at
+    pass_other r e t =
+        let n : at + size - at ≡ size = omega arith in
+        blocks_other s size from at g.passed r (rw (n, here) e) t
+
+  pub pass_over : length left < step → PastAscii s size from at
+  pass_over h = blocks_over s size from at g.passed (omega (arith, g.whole, ap length g.behind, length-drop at s))
 
 -- blocks of any two sizes, and then octet by octet
 pub past_all : (s : List ℕ) (n m from long short next : ℕ)

@@ -7,7 +7,8 @@ use mathlib.Core.Logic.{⊎_elim}
 use mathlib.Core.List.{List, [], ◌∷◌}
 use Prim.Native.Nat.{ℕ, zero, suc, ◌+◌, ◌-◌, ◌*◌, ◌%◌, ◌^◌, ◌≤◌, ◌<◌}
 use native.Mathlib.Omega.{arith}
-use borrow.Author.Tests.{lt-ltb, not-true, not-false}
+use borrow.Author.Tests.{not-true, not-false}
+use lib.Dec.{ltb}
 use lib.ListN.{length, get_or, take, drop, length-drop, take-append-drop}
 use lib.Seq.{drop-drop}
 use Rattle.text.specs.Grammar.{◌∈◌}
@@ -15,8 +16,11 @@ use Rattle.text.specs.Utf8.{UTF8-tail, is_utf8, octets_after, Leads, two, three,
 use Rattle.text.specs.Ascii.{is_ascii}
 use Rattle.text.specs.Found.{PastAscii, ReadChar, Decodes}
 use Rattle.text.specs.declared.utf8.Decoded.{Decoded}
-use Rattle.text.specs.declared.utf8.Decoded.TheVariants.{Char, Bad}
+use Rattle.std.specs.Prelude.{Option, Some, None}
 use Rattle.text.proofs.Reading.{drop_here, drop_over, le_or_lt}
+use mir.Syntax.{w8}
+use Rattle.std.specs.Int.{leading_ones}
+use Rattle.text.proofs.utf8.Octets.{leads_none}
 use Rattle.text.proofs.utf8.Sequences.{completes, sequence, no_sequence}
 use Rattle.text.proofs.utf8.Parts.{ascii_before}
 
@@ -185,20 +189,11 @@ module _ (s : List ℕ) (at n p i : ℕ) (half : Half s at n p i) where
 
 -- ---- the ways through `decode`
 
-pub leads_as : (a n m : ℕ) → Leads a n → n ≡ m → Leads a m
-leads_as a n m l e = rw e at l
-
-led_none : (a n : ℕ) → Leads a n → (n ≡ 2 → ⊥) → (n ≡ 3 → ⊥) → (n ≡ 4 → ⊥) → n ≡ 0
-led_none a n (two h k) n2 n3 n4 = absurd (n2 refl)
-led_none a n (three h k) n2 n3 n4 = absurd (n3 refl)
-led_none a n (four h k) n2 n3 n4 = absurd (n4 refl)
-led_none a n (single h) n2 n3 n4 = refl
-led_none a n (beyond h) n2 n3 n4 = refl
-
-pub read_no_lead : (s : List ℕ) (at n : ℕ) → at < length s → Leads (get_or s at 0) n → (n ≡ 2 → ⊥) → (n ≡ 3 → ⊥) → (n ≡ 4 → ⊥) → 0x80 ≤ get_or s at 0
-    → is_utf8 (drop at s) ≡ false
-read_no_lead s at n inside l n2 n3 n4 h =
-    ap is_utf8 (drop_here s at inside) ∙ no_sequence (get_or s at 0) n (drop (at + 1) s) l (led_none (get_or s at 0) n l n2 n3 n4) h
+pub read_no_lead : (s : List ℕ) (at n : ℕ) → at < length s → get_or s at 0 < 256 → n ≡ leading_ones w8 (get_or s at 0)
+    → (n ≡ 2 → ⊥) → (n ≡ 3 → ⊥) → (n ≡ 4 → ⊥) → 0x80 ≤ get_or s at 0 → is_utf8 (drop at s) ≡ false
+read_no_lead s at n inside fits ones n2 n3 n4 h =
+    ap is_utf8 (drop_here s at inside)
+    ∙ no_sequence (get_or s at 0) 0 (drop (at + 1) s) (leads_none (get_or s at 0) n fits ones n2 n3 n4) refl h
 
 -- ---- the ways through `is_utf8`
 
@@ -211,31 +206,31 @@ module _ (s : List ℕ) (at next : ℕ) (past : PastAscii s 1 at next) where
       ∙ rw (drop-drop (next - at) at s, start)
 
   -- an octet of US-ASCII is passed
-  pub utf8_past_nearer : at < length s → get_or s at 0 < 0x80 → length s - next < length s - at
+  pub utf8_past_nearer : (r : Bool) → at < length s → r ≡ ltb (get_or s at 0) 0x80 → r ≡ true → length s - next < length s - at
   unfolding is_ascii
-  utf8_past_nearer h low =
+  utf8_past_nearer r h low t =
       ⊎_elim
       (λ (p : next ≤ at).
       let e : next ≡ at = omega arith in
       let other : is_ascii (take 1 (drop at s)) ≡ false = rw e at (past.stopped (omega arith)) in
-      let z : ◌≡◌ {A = Bool} true false = sym (rw (drop_here s at h, lt-ltb (get_or s at 0) 0x80 low)) ∙ other in
+      let z : ◌≡◌ {A = Bool} true false = sym (rw (drop_here s at h, sym low, t)) ∙ other in
       absurd (true≢false z))
       (λ (p : at < next). omega arith)
       (le_or_lt next at)
 
-module _ (s : List ℕ) (at : ℕ) (found : Decoded) (decodes : Decodes s at found) where
-  module _ (point next : ℕ) (e : found ≡ Char point next) where
-    read_char : ReadChar s at point next
-    read_char = subst (λ (d : Decoded). Decodes s at d) e decodes
+module _ (s : List ℕ) (at : ℕ) (found : Option Decoded) (decodes : Decodes s at found) where
+  module _ (character : Decoded) (e : found ≡ Some character) where
+    read_char : ReadChar s at character.point character.next
+    read_char = subst (λ (d : Option Decoded). Decodes s at d) e decodes
 
-    pub utf8_nearer : at < length s → length s - next < length s - at
+    pub utf8_nearer : at < length s → length s - character.next < length s - at
     utf8_nearer h = let char = read_char in omega arith
 
-    pub utf8_more : is_utf8 s ≡ is_utf8 (drop at s) → is_utf8 s ≡ is_utf8 (drop next s)
+    pub utf8_more : is_utf8 s ≡ is_utf8 (drop at s) → is_utf8 s ≡ is_utf8 (drop character.next s)
     utf8_more inv = inv ∙ read_char.same
 
-  pub utf8_broken : found ≡ Bad → is_utf8 s ≡ is_utf8 (drop at s) → false ≡ is_utf8 s
-  utf8_broken e inv = sym (inv ∙ subst (λ (d : Decoded). Decodes s at d) e decodes)
+  pub utf8_broken : found ≡ None → is_utf8 s ≡ is_utf8 (drop at s) → false ≡ is_utf8 s
+  utf8_broken e inv = sym (inv ∙ subst (λ (d : Option Decoded). Decodes s at d) e decodes)
 
 pub utf8_ended : (s : List ℕ) (at : ℕ) → is_utf8 s ≡ is_utf8 (drop at s) → length s ≤ at → true ≡ is_utf8 s
 unfolding is_utf8 octets_after

@@ -7,9 +7,9 @@ use mathlib.Core.List.{List, [], ◌∷◌, ◌++◌, append-nil}
 use Rattle.std.specs.Prelude.{Option, Some, None}
 use Prim.Native.Nat.{ℕ, zero, suc, ◌+◌, ◌-◌, ◌≤◌}
 use native.Mathlib.Omega.{arith}
-use borrow.Author.Tests.{ltb-true, leb-true, ne_eqb, not-true, not-false}
+use borrow.Author.Tests.{ltb-true, leb-true, eq-eqb, ne_eqb, not-false}
 use lib.Dec.{ltb, leb, eqb, eqb-suc-zero}
-use lib.ListN.{length, get_or, take, drop, get_or-eq_default}
+use lib.ListN.{get_or, take, drop}
 use lib.Seq.{get_or-drop}
 use Rattle.text.specs.Grammar.{Range, ◌to◌, ◌∈◌, if_some}
 use Rattle.text.specs.Ascii.{is_ascii}
@@ -192,17 +192,11 @@ utf8_part pool valid m (suc k) = by_test (is_boundary pool m) refl
         let here : m + 0 ≡ m = omega arith in
         rw eqb-suc-zero (begun_inside (drop m pool) k (boundary_behind pool m 0 ∙ ap (is_boundary pool) here ∙ p))
 
--- ---- the ways through `is_boundary` and `is_part_utf8`
+-- ---- the ways through `is_part_utf8`
 
-pub boundary_end : (s : List ℕ) (at : ℕ) → at ≡ length s → true ≡ is_boundary s at
-boundary_end s at e = rw (get_or-eq_default s 0 {n = at} (omega arith))
-
-pub boundary_looked : (s : List ℕ) (at : ℕ) (r : Bool) → r ≡ (get_or s at 0 ∈ UTF8-tail) → not r ≡ is_boundary s at
-boundary_looked s at r e = ap not e
-
-pub part_empty : (pool : List ℕ) (start end : ℕ) → start ≡ end → true ≡ is_utf8 (take (end - start) (drop start pool))
+pub part_empty : (pool : List ℕ) (start end : ℕ) → start ≡ end → eqb start end ≡ is_utf8 (take (end - start) (drop start pool))
 unfolding is_utf8 octets_after
-part_empty pool start end e = let nothing : end - start ≡ 0 = omega arith in rw nothing
+part_empty pool start end e = let nothing : end - start ≡ 0 = omega arith in eq-eqb start end e ∙ rw nothing
 
 module _ (pool : List ℕ) (start end : ℕ) (valid : is_utf8 pool ≡ true) (order : start ≤ end) (apart : start ≡ end → ⊥) where
   part_ends : is_utf8 (take (end - start) (drop start pool)) ≡ (is_boundary pool start && is_boundary pool end)
@@ -211,8 +205,8 @@ module _ (pool : List ℕ) (start end : ℕ) (valid : is_utf8 pool ≡ true) (or
       utf8_part pool valid start (end - start) ∙ rw (ne_eqb (end - start) 0 (λ e. apart (omega arith)), upto)
 
   module _ (r : Bool) (e : r ≡ is_boundary pool start) where
-    pub part_inside : not r ≡ true → false ≡ is_utf8 (take (end - start) (drop start pool))
-    part_inside t = sym (part_ends ∙ rw (← e, not-true r t))
+    pub part_inside : r ≡ false → r ≡ is_utf8 (take (end - start) (drop start pool))
+    part_inside t = t ∙ sym (part_ends ∙ rw (← e, t))
 
-    pub part_from : (u : Bool) → not r ≡ false → u ≡ is_boundary pool end → u ≡ is_utf8 (take (end - start) (drop start pool))
-    part_from u t d = d ∙ sym (part_ends ∙ rw (← e, not-false r t))
+    pub part_from : (u : Bool) → r ≡ true → u ≡ is_boundary pool end → u ≡ is_utf8 (take (end - start) (drop start pool))
+    part_from u t d = d ∙ sym (part_ends ∙ rw (← e, t))

@@ -1,5 +1,7 @@
 -- A literal at a type, written, by one induction: the containers that may still be opened fall. Assumes nothing.
+use mathlib.Core.Path.{◌≡◌}
 use borrow.Author.Rules.{rules}
+use Rattle.std.specs.Prelude.{None, Some}
 use Rattle.echoing.proofs.Fields.{items_again}
 use Rattle.input_coercion.proofs.Walk.{form_shaped, listable, keyed_within, few_declared}
 use Rattle.echoing.proofs.Walk.{literals_parted_lem, valuing, shaping, naming, itemizing, fielding, opening}
@@ -38,17 +40,13 @@ put_input_object-returns-then-room-eq0 t c = search (opening, rules)
 pub put_input_object-loop-i-init : goal.put_input_object-loop-i-init
 put_input_object-loop-i-init t c = search (opening, rules)
 
-pub put_input_object-put_input_field-written-requires : goal.put_input_object-put_input_field-written-requires
-put_input_object-put_input_field-written-requires t c = (search (rules, c.decreases), (c.requires.coercible, (c.requires.parted, c.requires.count_bound)))
-
-pub put_input_object-returns-in_default : goal.put_input_object-returns-in_default
-put_input_object-returns-in_default t c = search (opening, rules)
-
-pub put_input_object-overflow_add-i : goal.put_input_object-overflow_add-i
-put_input_object-overflow_add-i t c = search (rules, c.loop-i-test.true, c.well_formed.1.1.1.1.1.1.1.1.1.1.1.1)
+pub put_input_object-put_input_field-requires : goal.put_input_object-put_input_field-requires
+put_input_object-put_input_field-requires t c = (search (rules, c.decreases), (c.requires.coercible, (c.requires.parted, c.requires.count_bound)))
 
 pub put_input_object-loop-i-preserved : goal.put_input_object-loop-i-preserved
-put_input_object-loop-i-preserved t c = search (opening, rules)
+put_input_object-loop-i-preserved t c =
+    let there : c.put_input_field.result ≡ Some c.in_ok-next.next = c.in_ok-next.was in
+    search (opening, rules)
 
 pub put_input_object-returns : goal.put_input_object-returns
 put_input_object-returns t c = search (opening, rules)
@@ -59,45 +57,33 @@ put_items-returns-then-room-eq0 t c = search (itemizing, rules)
 pub put_items-loop-i-init : goal.put_items-loop-i-init
 put_items-loop-i-init t c = search (itemizing, rules)
 
-pub put_items-put_coerced-written-requires : goal.put_items-put_coerced-written-requires
-put_items-put_coerced-written-requires t c = (search (rules, c.decreases), (c.requires.coercible, c.requires.parted))
-
-pub put_items-returns-in_default : goal.put_items-returns-in_default
-put_items-returns-in_default t c = search (itemizing, rules)
-
-pub put_items-overflow_add-i : goal.put_items-overflow_add-i
-put_items-overflow_add-i t c = search (rules, c.loop-i-test.true, c.well_formed.1.1.1.1.1.1.1.1.1.1.1.1)
-
-pub put_items-loop-i-smaller : goal.put_items-loop-i-smaller
-put_items-loop-i-smaller t c = search (rules, c.loop-i-test.true)
+pub put_items-put_coerced-requires : goal.put_items-put_coerced-requires
+put_items-put_coerced-requires t c = (search (rules, c.decreases), (c.requires.coercible, c.requires.parted))
 
 pub put_items-loop-i-preserved : goal.put_items-loop-i-preserved
 put_items-loop-i-preserved t c = items_again _ _ _ _ _ _ _ _ _ _ _
     c.loop-i.invariant
     c.loop-i-test.true
     c.put-value.ensures
-    c.put_coerced-written.ensures (search rules)
+    c.put_coerced.ensures (search rules)
 
 pub put_items-returns : goal.put_items-returns
 put_items-returns t c = search (itemizing, rules)
 
-pub put_named-returns-in_default : goal.put_named-returns-in_default
-put_named-returns-in_default t c = search (naming, rules)
-
 pub put_named-put_checked_literal-requires : goal.put_named-put_checked_literal-requires
 put_named-put_checked_literal-requires t c = literals_parted_lem c.requires.coercible
 
-pub put_named-returns-in_default-kind : goal.put_named-returns-in_default-kind
-put_named-returns-in_default-kind t c = search (naming, rules)
+pub put_named-returns-in_default : goal.put_named-returns-in_default
+put_named-returns-in_default t c = let found : c.type_named.result ≡ Some c.in_ok-ty.ty = c.in_ok-ty.was in search (naming, rules)
 
 pub put_named-returns-in_default-shape : goal.put_named-returns-in_default-shape
-put_named-returns-in_default-shape t c = search (naming, rules)
+put_named-returns-in_default-shape t c = let found : c.type_named.result ≡ Some c.in_ok-ty.ty = c.in_ok-ty.was in search (naming, rules)
 
 pub put_named-put_input_object-requires : goal.put_named-put_input_object-requires
 put_named-put_input_object-requires t c = (search (rules, c.decreases), (c.requires.coercible, (c.requires.parted, (search (keyed_within, c.requires.coercible, c.requires.form_at), search (few_declared, c.requires.coercible)))))
 
 pub put_named-returns : goal.put_named-returns
-put_named-returns t c = search (naming, rules)
+put_named-returns t c = let found : c.type_named.result ≡ Some c.in_ok-ty.ty = c.in_ok-ty.was in search (naming, rules)
 
 pub put_shaped-put_named-requires : goal.put_shaped-put_named-requires
 put_shaped-put_named-requires t c = (search (rules, c.decreases), (c.requires.coercible, (c.requires.parted, c.requires.form_at)))
@@ -116,3 +102,18 @@ put_shaped-returns-in-ListOf t c = search (shaping, rules)
 
 pub put_shaped-returns-in-Unknown : goal.put_shaped-returns-in-Unknown
 put_shaped-returns-in-Unknown t c = search (shaping, rules)
+
+pub put_input_object-returns-in_err-next : goal.put_input_object-returns-in_err-next
+put_input_object-returns-in_err-next t c =
+    let far : c.put_input_field.result ≡ None = c.in_err-next.was in
+    rw c.from_residual.ensures (search (opening, rules))
+
+pub put_items-returns-in_err-next : goal.put_items-returns-in_err-next
+put_items-returns-in_err-next t c =
+    let far : c.put_coerced.result ≡ None = c.in_err-next.was in
+    rw c.from_residual.ensures (search (itemizing, rules))
+
+pub put_named-returns-in_err-ty : goal.put_named-returns-in_err-ty
+put_named-returns-in_err-ty t c =
+    let none : c.type_named.result ≡ None = c.in_err-ty.was in
+    rw c.from_residual.ensures (search (naming, rules))

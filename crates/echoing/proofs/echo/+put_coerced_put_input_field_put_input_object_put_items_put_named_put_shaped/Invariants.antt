@@ -26,9 +26,9 @@ abbrev pub decreases-put_shaped : goal.decreases-put_shaped
 decreases-put_shaped l = l.room * 8 + 6
 
 abbrev pub invariant-put_input_object-loop-i : goal.invariant-put_input_object-loop-i
-invariant-put_input_object-loop-i l = Going field_size (field_out l.pool l.names l.fields) (l.room - 1) (of_field l.pool l.names l.type_refs l.types l.fields l.nodes l.literals l.variables (l.room - 1)
+invariant-put_input_object-loop-i l = Going field_size (field_out l.tables.pool.now l.tables.names.now l.tables.fields.now) (l.room - 1) (of_field l.tables.pool.now l.tables.names.now l.tables.type_refs.now l.tables.types.now l.tables.fields.now l.tables.nodes.now l.tables.literals.now l.tables.variables.now (l.room - 1)
     (rows_in l.given)) l.first l.count l.initial.text l.at l.text l.next l.i
 
 abbrev pub invariant-put_items-loop-i : goal.invariant-put_items-loop-i
-invariant-put_items-loop-i l = Going containers item_out (l.room - 1) (of_value l.pool l.names l.type_refs l.types l.fields l.nodes l.literals l.variables
+invariant-put_items-loop-i l = Going containers item_out (l.room - 1) (of_value l.tables.pool.now l.tables.names.now l.tables.type_refs.now l.tables.types.now l.tables.fields.now l.tables.nodes.now l.tables.literals.now l.tables.variables.now
     (l.room - 1) l.inner) l.first l.count l.initial.text l.at l.text l.next l.i

@@ -1,5 +1,6 @@
 -- A literal at a type, by one induction: the containers that may still be opened fall. Assumes nothing.
 use borrow.Author.Rules.{rules}
+use Rattle.std.proofs.lemmas.Result.{err_from_is_err_and}
 use Rattle.input_coercion.proofs.Walk.{valuing, itemizing, naming, shaping, fielding, opening, objecting}
 use Rattle.input_coercion.proofs.check.+coerce_argument_value_coerce_items_coerce_named_coerce_shape_input_field_input_fields_input_object.Goals as goal
 
@@ -24,11 +25,11 @@ coerce_items-returns-then-room-eq0 t c = search itemizing
 pub coerce_items-loop-i-init : goal.coerce_items-loop-i-init
 coerce_items-loop-i-init t c = search (itemizing, rules)
 
-pub coerce_items-returns-in_default : goal.coerce_items-returns-in_default
-coerce_items-returns-in_default t c = search itemizing
+pub coerce_items-returns-in_err-coerce_argument_value : goal.coerce_items-returns-in_err-coerce_argument_value
+coerce_items-returns-in_err-coerce_argument_value t c = let p = err_from_is_err_and c.from_residual.result c.from_residual.ensures.1 in rw (p.1, p.2) (search (itemizing, c.in_err-coerce_argument_value.ensures))
 
 pub coerce_items-loop-i-preserved : goal.coerce_items-loop-i-preserved
-coerce_items-loop-i-preserved t c = search (itemizing, rules)
+coerce_items-loop-i-preserved t c = search (itemizing, rules, c.in_ok-coerce_argument_value.ensures)
 
 pub coerce_items-returns : goal.coerce_items-returns
 coerce_items-returns t c = search itemizing
@@ -72,11 +73,11 @@ input_fields-returns-then-room-eq0 t c = search opening
 pub input_fields-loop-i-init : goal.input_fields-loop-i-init
 input_fields-loop-i-init t c = search (opening, rules)
 
-pub input_fields-returns-in_default : goal.input_fields-returns-in_default
-input_fields-returns-in_default t c = search opening
+pub input_fields-returns-in_err-input_field : goal.input_fields-returns-in_err-input_field
+input_fields-returns-in_err-input_field t c = let p = err_from_is_err_and c.from_residual.result c.from_residual.ensures.1 in rw (p.1, p.2) (search (opening, c.in_err-input_field.ensures))
 
 pub input_fields-loop-i-preserved : goal.input_fields-loop-i-preserved
-input_fields-loop-i-preserved t c = search (opening, rules)
+input_fields-loop-i-preserved t c = search (opening, rules, c.in_ok-input_field.ensures)
 
 pub input_fields-returns : goal.input_fields-returns
 input_fields-returns t c = search opening

@@ -27,7 +27,7 @@ abbrev pub decreases-input_object : goal.decreases-input_object
 decreases-input_object l = l.room * 8 + 4
 
 abbrev pub invariant-coerce_items-loop-i : goal.invariant-coerce_items-loop-i
-invariant-coerce_items-loop-i l = Going (of_value l.type_refs l.types l.fields l.nodes l.literals l.variables (l.room - 1) l.inner) l.first l.count l.i
+invariant-coerce_items-loop-i l = Going (of_value l.tables.type_refs.now l.tables.types.now l.tables.fields.now l.tables.nodes.now l.tables.literals.now l.tables.variables.now (l.room - 1) l.inner) l.first l.count l.i
 
 abbrev pub invariant-input_fields-loop-i : goal.invariant-input_fields-loop-i
-invariant-input_fields-loop-i l = Going (of_field l.type_refs l.types l.fields l.nodes l.literals l.variables (l.room - 1) l.row (rows_in l.given)) l.first l.count l.i
+invariant-input_fields-loop-i l = Going (of_field l.tables.type_refs.now l.tables.types.now l.tables.fields.now l.tables.nodes.now l.tables.literals.now l.tables.variables.now (l.room - 1) l.row (rows_in l.given)) l.first l.count l.i

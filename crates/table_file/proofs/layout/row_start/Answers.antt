@@ -5,6 +5,3 @@ use Rattle.table_file.proofs.layout.row_start.Goals as goal
 
 pub overflow_mul-result : goal.overflow_mul-result
 overflow_mul-result c = record { fits = rw c.row_width.ensures (row_fits _ _ (omega arith)) }
-
-pub returns : goal.returns
-returns c = cc

@@ -1,21 +1,18 @@
--- A text is a name just if what is left of it, behind a NameStart and any number of NameContinue, is all NameContinue. Assumes nothing.
-use Rattle.text.proofs.names.Spelled.{name_empty, name_refused, name_begun, name_stopped, name_continued, name_ended}
+-- A text is a name just if its first octet is NameStart and all others NameContinue. Assumes nothing.
+use Rattle.std.proofs.Common.{rules, tests}
+use Rattle.std.proofs.lemmas.Iterator.{YieldsList-from_slice}
+use Rattle.std.proofs.lemmas.Iterator.Search.{all_from_yields_List}
+use Rattle.text.specs.Names.{NameContinue}
+use Rattle.text.proofs.names.Spelled.{name_empty, name_refused, name_begun}
 use Rattle.text.proofs.names.is_name.Goals as goal
 
-pub returns-then-s-eq0 : goal.returns-then-s-eq0
-returns-then-s-eq0 c = search name_empty
+pub returns-in-empty : goal.returns-in-empty
+returns-in-empty c = name_empty c.args.s.now c.in-empty.len_below
 
-pub returns-then-not-is_name_start : goal.returns-then-not-is_name_start
-returns-then-not-is_name_start c = search name_refused
+pub returns-then-is_name_start : goal.returns-then-is_name_start
+returns-then-is_name_start c =
+    name_begun c.args.s.now c.is_name_start.result c.in-len1-up.len_at_least c.is_name_start.ensures c.all.result c.if-is_name_start.true
+    (all_from_yields_List NameContinue _ _ _ c.all.ensures.ran (YieldsList-from_slice _ c.iter.ensures.rest) (λ x b q k. search (rules, tests)))
 
-pub loop-i-init : goal.loop-i-init
-loop-i-init c = search name_begun
-
-pub returns-then-not-is_name_continue : goal.returns-then-not-is_name_continue
-returns-then-not-is_name_continue c = search name_stopped
-
-pub loop-i-preserved : goal.loop-i-preserved
-loop-i-preserved c = search name_continued
-
-pub returns : goal.returns
-returns c = search name_ended
+pub returns-else-is_name_start : goal.returns-else-is_name_start
+returns-else-is_name_start c = name_refused c.args.s.now c.is_name_start.result c.in-len1-up.len_at_least c.is_name_start.ensures c.if-is_name_start.false

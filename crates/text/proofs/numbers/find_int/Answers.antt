@@ -1,12 +1,7 @@
 -- Digits that do not begin with a zero begin with a digit1-9. Assumes nothing.
-use Rattle.text.proofs.numbers.Parts.{no_int, int_zero, int_digits}
+use borrow.Author.Rules.{rules}
+use Rattle.text.proofs.numbers.Parts.{int_found}
 use Rattle.text.proofs.numbers.find_int.Goals as goal
 
-pub returns-then-s-at : goal.returns-then-s-at
-returns-then-s-at c = search no_int
-
-pub returns-then-s-at-eq48 : goal.returns-then-s-at-eq48
-returns-then-s-at-eq48 c = search int_zero
-
 pub returns : goal.returns
-returns c = search int_digits
+returns c = int_found c.args.s.now c.args.at c.find_byte.result c.or_else.result c.find_byte.ensures c.or_else.ensures (λ h. search rules)

@@ -1,9 +1,9 @@
 -- What follows the int decides, where there is one. Assumes nothing.
-use Rattle.text.proofs.numbers.Parts.{float_by_rest, float_no_int}
+use borrow.Author.Rules.{rules}
+use Rattle.text.proofs.numbers.Parts.{float_found}
 use Rattle.text.proofs.numbers.is_float.Goals as goal
 
-pub returns-in-Ends : goal.returns-in-Ends
-returns-in-Ends c = search float_by_rest
-
-pub returns-in-Absent : goal.returns-in-Absent
-returns-in-Absent c = search float_no_int
+pub returns : goal.returns
+returns c =
+    float_found c.args.s.now c.past_minus.result c.find_int.result c.is_some_and.result c.past_minus.ensures c.find_int.ensures
+    c.is_some_and.ensures (λ past h. search rules)

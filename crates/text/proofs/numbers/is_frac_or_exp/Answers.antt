@@ -1,15 +1,13 @@
 -- Either of frac and exp may be absent, but not both. Assumes nothing.
-use Rattle.text.proofs.numbers.Parts.{frac_and_exp, frac_alone, exp_alone, neither}
+use borrow.Author.Rules.{rules}
+use Rattle.text.proofs.numbers.Parts.{frac_and_more, exp_alone}
 use Rattle.text.proofs.numbers.is_frac_or_exp.Goals as goal
 
-pub returns-in-Ends-find_exp : goal.returns-in-Ends-find_exp
-returns-in-Ends-find_exp c = search frac_and_exp
+pub returns-in-Some : goal.returns-in-Some
+returns-in-Some c = rw c.unwrap_or.ensures
+    (frac_and_more c.args.s.now c.args.at c.find_frac.result c.find_frac.ensures c.find_exp.result c.in-Some.past c.in-Some.is c.find_exp.ensures)
 
-pub returns-in-Absent-find_exp : goal.returns-in-Absent-find_exp
-returns-in-Absent-find_exp c = search frac_alone
-
-pub returns-in-Ends-find_exp-2 : goal.returns-in-Ends-find_exp-2
-returns-in-Ends-find_exp-2 c = search exp_alone
-
-pub returns-in-Absent-find_exp-2 : goal.returns-in-Absent-find_exp-2
-returns-in-Absent-find_exp-2 c = search neither
+pub returns-in-None : goal.returns-in-None
+returns-in-None c =
+    exp_alone c.args.s.now c.args.at c.find_frac.result c.find_frac.ensures c.find_exp-in-None.result c.is_some_and.result c.in-None.is
+    c.find_exp-in-None.ensures c.is_some_and.ensures (λ end h. search rules)

@@ -6,8 +6,8 @@ use Rattle.text.proofs.numbers.past_digits.Goals as goal
 pub loop-i-init : goal.loop-i-init
 loop-i-init c = refl
 
-pub returns-then-not-is_digit : goal.returns-then-not-is_digit
-returns-then-not-is_digit c = search digits_stopped
+pub returns-then-not-is_ascii_digit : goal.returns-then-not-is_ascii_digit
+returns-then-not-is_ascii_digit c = search digits_stopped
 
 pub loop-i-preserved : goal.loop-i-preserved
 loop-i-preserved c = search digits_more

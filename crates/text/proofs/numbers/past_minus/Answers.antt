@@ -1,12 +1,6 @@
 -- An optional part that is not there takes nothing. Assumes nothing.
-use Rattle.text.proofs.numbers.Parts.{no_minus, minus_there, minus_absent}
+use Rattle.text.proofs.numbers.Parts.{optional_minus}
 use Rattle.text.proofs.numbers.past_minus.Goals as goal
 
-pub returns-then-s-at : goal.returns-then-s-at
-returns-then-s-at c = search no_minus
-
-pub returns-then-s-at-eq45 : goal.returns-then-s-at-eq45
-returns-then-s-at-eq45 c = search minus_there
-
 pub returns : goal.returns
-returns c = search minus_absent
+returns c = rw c.unwrap_or.ensures (optional_minus c.args.s.now c.args.at c.find_byte.result c.find_byte.ensures)

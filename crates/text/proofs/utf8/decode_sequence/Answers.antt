@@ -3,25 +3,25 @@ use Rattle.text.proofs.utf8.Decoding.{read_short, leads_small, half_begun, half_
 use Rattle.text.proofs.utf8.decode_sequence.Goals as goal
 
 pub returns-then-s-at : goal.returns-then-s-at
-returns-then-s-at c = search read_short
+returns-then-s-at g c = search read_short
 
 pub lead_bits-point-requires : goal.lead_bits-point-requires
-lead_bits-point-requires c = search leads_small
+lead_bits-point-requires g c = search leads_small
 
 pub loop-i-init : goal.loop-i-init
-loop-i-init c = search half_begun
+loop-i-init g c = search half_begun
 
 pub returns-then-not-is_tail : goal.returns-then-not-is_tail
-returns-then-not-is_tail c = search half_refused
+returns-then-not-is_tail g c = search half_refused
 
 pub with_tail-point-requires : goal.with_tail-point-requires
-with_tail-point-requires c = search half_fits
+with_tail-point-requires g c = search half_fits
 
 pub loop-i-preserved : goal.loop-i-preserved
-loop-i-preserved c = search half_more
+loop-i-preserved g c = search half_more
 
 pub returns-then-is_allowed : goal.returns-then-is_allowed
-returns-then-is_allowed c = search read_whole
+returns-then-is_allowed g c = search read_whole
 
-pub returns : goal.returns
-returns c = search read_not_allowed
+pub returns-else-is_allowed : goal.returns-else-is_allowed
+returns-else-is_allowed g c = search read_not_allowed

@@ -5,8 +5,8 @@ use Rattle.text.proofs.utf8.is_part_utf8.Goals as goal
 pub returns-then-start-end : goal.returns-then-start-end
 returns-then-start-end c = search part_empty
 
-pub returns-then-not-is_boundary : goal.returns-then-not-is_boundary
-returns-then-not-is_boundary c = search part_inside
+pub returns-then-is_boundary : goal.returns-then-is_boundary
+returns-then-is_boundary c = search part_from
 
-pub returns : goal.returns
-returns c = search part_from
+pub returns-else-is_boundary : goal.returns-else-is_boundary
+returns-else-is_boundary c = search part_inside

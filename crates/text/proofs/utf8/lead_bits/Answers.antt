@@ -4,4 +4,4 @@ use Rattle.text.proofs.utf8.Octets.{lead_masked}
 use Rattle.text.proofs.utf8.lead_bits.Goals as goal
 
 pub returns : goal.returns
-returns c = c.wide.ensures ∙ lead_masked c.args.size c.args.lead c.requires
+returns c = c.from.ensures ∙ lead_masked c.args.size c.args.lead c.requires

@@ -12,4 +12,4 @@ abbrev pub decreases-put_parts : goal.decreases-put_parts
 decreases-put_parts l = l.room * 2
 
 abbrev pub invariant-put_parts-loop-i : goal.invariant-put_parts-loop-i
-invariant-put_parts-loop-i l = Going (literal_key_text l.pool l.names l.literals) (part_by_part l.pool l.names l.literals (l.room - 1)) l.keyed l.first l.count l.initial.text l.at l.text l.next l.i
+invariant-put_parts-loop-i l = Going (literal_key_text l.tables.pool.now l.tables.names.now l.tables.literals.now) (part_by_part l.tables.pool.now l.tables.names.now l.tables.literals.now (l.room - 1)) l.keyed l.first l.count l.initial.text l.at l.text l.next l.i

@@ -1,5 +1,8 @@
 -- Both functions, by one induction: the containers that may still be opened fall. Assumes nothing.
+use mathlib.Core.Path.{◌≡◌}
 use borrow.Author.Rules.{rules}
+use native.Mathlib.Omega.{arith}
+use Rattle.std.specs.Prelude.{None}
 use Rattle.values.proofs.Walk.{walking}
 use Rattle.values.proofs.node.+put_container_put_node.Goals as goal
 
@@ -11,8 +14,11 @@ put_container-returns-then-room-eq0 t c = search walk
 pub put_container-loop-i-init : goal.put_container-loop-i-init
 put_container-loop-i-init t c = search walk
 
-pub put_container-returns-in_default : goal.put_container-returns-in_default
-put_container-returns-in_default t c = search walk
+pub put_container-returns-in_err-next : goal.put_container-returns-in_err-next
+put_container-returns-in_err-next t c =
+    let gone : c.from_residual.result ≡ None = grind arith in
+    let far : c.put_node.result ≡ None = c.in_err-next.was in
+    rw gone (search walk)
 
 pub put_container-loop-i-smaller : goal.put_container-loop-i-smaller
 put_container-loop-i-smaller t c = search walk

@@ -12,4 +12,4 @@ abbrev pub decreases-put_node : goal.decreases-put_node
 decreases-put_node l = l.room * 2 + 1
 
 abbrev pub invariant-put_container-loop-i : goal.invariant-put_container-loop-i
-invariant-put_container-loop-i l = Going (key_text l.pool l.nodes) (node_value l.pool l.nodes (l.room - 1)) l.keyed l.first l.count l.initial.text l.at l.text l.next l.i
+invariant-put_container-loop-i l = Going (key_text l.tables.pool.now l.tables.nodes.now) (node_value l.tables.pool.now l.tables.nodes.now (l.room - 1)) l.keyed l.first l.count l.initial.text l.at l.text l.next l.i

@@ -1,12 +1,8 @@
--- Zeros from the position up to the end leave nothing else behind it, and nothing before it is written. Assumes nothing.
-use Rattle.writing.proofs.Clearing.{clear_begin, clear_again, clear_end}
+use native.Mathlib.Omega.{arith}
+use borrow.Author.Rules.{rules}
+use Rattle.writing.proofs.Clearing.{filled}
 use Rattle.writing.proofs.place.clear.Goals as goal
 
-pub loop-i-init : goal.loop-i-init
-loop-i-init c = clear_begin c.args.text.now c.args.from
-
-pub loop-i-preserved : goal.loop-i-preserved
-loop-i-preserved c = clear_again c.loop-i.invariant c.loop-i-test.true
-
-pub returns : goal.returns
-returns c = clear_end c.loop-i.invariant c.loop-i-test.false
+pub returns-then-from-buffer : goal.returns-then-from-buffer
+returns-then-from-buffer g c =
+    filled _ g.T.Element.ZERO (λ f q x h. search rules) c.args.buffer.now _ c.args.from _ _ (omega arith) c.fill_with.ensures.len c.fill_with.ensures.ran.1

@@ -3,4 +3,4 @@ use Rattle.writing.proofs.WritesLaws.{cons}
 use Rattle.writing.proofs.words.put_record_head.Goals as goal
 
 pub returns : goal.returns
-returns c = cons c.put_word-after_code.ensures (cons c.put_word-after_place.ensures c.put_word.ensures)
+returns c = cons c.put-after_code.ensures (cons c.put-after_place.ensures c.put.ensures)

@@ -3,4 +3,4 @@ use Rattle.writing.proofs.WritesLaws.{cons}
 use Rattle.writing.proofs.words.put_segment.Goals as goal
 
 pub returns : goal.returns
-returns c = cons c.put_word-next.ensures c.put_word.ensures
+returns c = cons c.put-next.ensures c.put.ensures

@@ -5,11 +5,11 @@ use Prim.Native.Nat.{ℕ}
 use Rattle.writing.proofs.Putting.{put_begin, put_again, put_end}
 use Rattle.writing.proofs.write.put_each.Goals as goal
 
-pub loop-i-init : goal.loop-i-init
-loop-i-init c = put_begin refl _ _ _
+pub loop-b-init : goal.loop-b-init
+loop-b-init c = put_begin refl _ _ _
 
-pub loop-i-preserved : goal.loop-i-preserved
-loop-i-preserved c = put_again (λ (x : ℕ). x ∷ []) (λ xs x. refl) c.loop-i.invariant c.loop-i-test.true c.put-next.ensures
+pub loop-b-preserved : goal.loop-b-preserved
+loop-b-preserved c = put_again (λ (x : ℕ). x ∷ []) (λ xs x. refl) c.loop-b.invariant c.loop-b-test.true c.put-next.ensures
 
 pub returns : goal.returns
-returns c = put_end c.loop-i.invariant c.loop-i-test.false
+returns c = put_end c.loop-b.invariant c.loop-b-test.false
