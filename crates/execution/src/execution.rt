@@ -61,12 +61,12 @@ fn complete_items(
         );
         state = d.state;
         let what = d.what;
-        if let Err(_) = what {
+        let Ok(_) = what else {
             return Done {
                 what: what,
                 state: moved(state, start),
             };
-        }
+        };
     }
     let end = close(text, start, state.at, b'[', b']');
     placed(state, end, Kind::List)
@@ -310,12 +310,12 @@ pub fn execute_selection_set(
         );
         state = d.state;
         let what = d.what;
-        if let Err(_) = what {
+        let Ok(_) = what else {
             return past_list(Done {
                 what: what,
                 state: moved(state, start),
             });
-        }
+        };
         low = put_in_place(
             text, spans, base, group, low, taken, start, next.at, state.at,
         );

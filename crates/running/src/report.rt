@@ -67,11 +67,9 @@ pub fn report_end(text: &mut [u8], errors: &mut [u32], d: Done) -> Reported
     ensures { ReportsEnd text.old errors.old d result text.new errors.new }
 {
     let state = d.state;
-    let failure = match d.what {
-        Ok(_) => {
-            return report(text, errors, state.at, state.errs);
-        }
-        Err(failure) => failure,
+    let what = d.what;
+    let Err(failure) = what else {
+        return report(text, errors, state.at, state.errs);
     };
     if let Failure::Stop(outcome) = failure {
         return refuse(text, errors, outcome);

@@ -20,29 +20,29 @@ complete_items-complete_item-step-requires t c = record { itemizable = items_ite
 pub complete_items-go_on-d-requires : goal.complete_items-go_on-d-requires
 complete_items-go_on-d-requires t c = (omega arith, items_ready _ _ _ _ _ _ _ _ _ _ _ _ _ _ _ c.requires c.loop-i.invariant c.loop-i-test.true refl c.complete_item-step.ensures)
 
-pub complete_items-shape_of-text-in-Err : goal.complete_items-shape_of-text-in-Err
-complete_items-shape_of-text-in-Err t c = (items_lost _ _ _ _ _ _ _ _ _ _ _ _ _ _ _ c.requires c.loop-i.invariant c.loop-i-test.true refl c.complete_item-step.ensures c.go_on-d.ensures c.in-Err.is).same_text
+pub complete_items-shape_of-text-in_default : goal.complete_items-shape_of-text-in_default
+complete_items-shape_of-text-in_default t c = (items_lost _ _ _ _ _ _ _ _ _ _ _ _ _ _ _ c.requires c.loop-i.invariant c.loop-i-test.true refl c.complete_item-step.ensures c.go_on-d.ensures c.in_default.is).same_text
 
-pub complete_items-shape_of-errors-in-Err : goal.complete_items-shape_of-errors-in-Err
-complete_items-shape_of-errors-in-Err t c = (items_lost _ _ _ _ _ _ _ _ _ _ _ _ _ _ _ c.requires c.loop-i.invariant c.loop-i-test.true refl c.complete_item-step.ensures c.go_on-d.ensures c.in-Err.is).same_errors
+pub complete_items-shape_of-errors-in_default : goal.complete_items-shape_of-errors-in_default
+complete_items-shape_of-errors-in_default t c = (items_lost _ _ _ _ _ _ _ _ _ _ _ _ _ _ _ c.requires c.loop-i.invariant c.loop-i-test.true refl c.complete_item-step.ensures c.go_on-d.ensures c.in_default.is).same_errors
 
-pub complete_items-shape_of-plans-in-Err : goal.complete_items-shape_of-plans-in-Err
-complete_items-shape_of-plans-in-Err t c = (items_lost _ _ _ _ _ _ _ _ _ _ _ _ _ _ _ c.requires c.loop-i.invariant c.loop-i-test.true refl c.complete_item-step.ensures c.go_on-d.ensures c.in-Err.is).left.kept.sized
+pub complete_items-shape_of-plans-in_default : goal.complete_items-shape_of-plans-in_default
+complete_items-shape_of-plans-in_default t c = (items_lost _ _ _ _ _ _ _ _ _ _ _ _ _ _ _ c.requires c.loop-i.invariant c.loop-i-test.true refl c.complete_item-step.ensures c.go_on-d.ensures c.in_default.is).left.kept.sized
 
-pub complete_items-shape_of-spans-in-Err : goal.complete_items-shape_of-spans-in-Err
-complete_items-shape_of-spans-in-Err t c = (items_lost _ _ _ _ _ _ _ _ _ _ _ _ _ _ _ c.requires c.loop-i.invariant c.loop-i-test.true refl c.complete_item-step.ensures c.go_on-d.ensures c.in-Err.is).left.unspanned.sized
+pub complete_items-shape_of-spans-in_default : goal.complete_items-shape_of-spans-in_default
+complete_items-shape_of-spans-in_default t c = (items_lost _ _ _ _ _ _ _ _ _ _ _ _ _ _ _ c.requires c.loop-i.invariant c.loop-i-test.true refl c.complete_item-step.ensures c.go_on-d.ensures c.in_default.is).left.unspanned.sized
 
-pub complete_items-shape_of-hints-in-Err : goal.complete_items-shape_of-hints-in-Err
-complete_items-shape_of-hints-in-Err t c = (items_lost _ _ _ _ _ _ _ _ _ _ _ _ _ _ _ c.requires c.loop-i.invariant c.loop-i-test.true refl c.complete_item-step.ensures c.go_on-d.ensures c.in-Err.is).left.hinted
+pub complete_items-shape_of-hints-in_default : goal.complete_items-shape_of-hints-in_default
+complete_items-shape_of-hints-in_default t c = (items_lost _ _ _ _ _ _ _ _ _ _ _ _ _ _ _ c.requires c.loop-i.invariant c.loop-i-test.true refl c.complete_item-step.ensures c.go_on-d.ensures c.in_default.is).left.hinted
 
-pub complete_items-returns-in-Err : goal.complete_items-returns-in-Err
-complete_items-returns-in-Err t c = rw c.moved.ensures (items_lost _ _ _ _ _ _ _ _ _ _ _ _ _ _ _ c.requires c.loop-i.invariant c.loop-i-test.true refl c.complete_item-step.ensures c.go_on-d.ensures c.in-Err.is)
+pub complete_items-returns-in_default : goal.complete_items-returns-in_default
+complete_items-returns-in_default t c = rw c.moved.ensures (items_lost _ _ _ _ _ _ _ _ _ _ _ _ _ _ _ c.requires c.loop-i.invariant c.loop-i-test.true refl c.complete_item-step.ensures c.go_on-d.ensures c.in_default.is)
 
 pub complete_items-loop-i-smaller : goal.complete_items-loop-i-smaller
 complete_items-loop-i-smaller t c = omega (arith, c.loop-i-test.true)
 
 pub complete_items-loop-i-preserved : goal.complete_items-loop-i-preserved
-complete_items-loop-i-preserved t c = items_again _ _ _ _ _ _ _ _ _ _ _ _ _ _ _ c.requires c.loop-i.invariant c.loop-i-test.true refl c.complete_item-step.ensures c.go_on-d.ensures c.in_default.is
+complete_items-loop-i-preserved t c = items_again _ _ _ _ _ _ _ _ _ _ _ _ _ _ _ c.requires c.loop-i.invariant c.loop-i-test.true refl c.complete_item-step.ensures c.go_on-d.ensures c.in-Ok.is
 
 pub complete_items-returns : goal.complete_items-returns
 complete_items-returns t c = rw c.placed.ensures (items_ended c.requires c.loop-i.invariant c.loop-i-test.false c.close-end.ensures)
@@ -110,23 +110,23 @@ execute_selection_set-next_group-group-requires t c = set_tally c.requires c.gro
 pub execute_selection_set-enter_field-d-requires : goal.execute_selection_set-enter_field-d-requires
 execute_selection_set-enter_field-d-requires t c = (omega arith, set_field_ready c.requires c.group_count-groups.ensures refl c.clear_spans.ensures c.loop-taken.invariant c.loop-taken-test.true c.next_group-group.ensures refl)
 
-pub execute_selection_set-shape_of-text-in-Err : goal.execute_selection_set-shape_of-text-in-Err
-execute_selection_set-shape_of-text-in-Err t c = set_text c.requires (set_lost c.requires c.group_count-groups.ensures refl c.clear_spans.ensures c.loop-taken.invariant c.loop-taken-test.true c.next_group-group.ensures c.past_choice.ensures c.enter_field-d.ensures c.in-Err.is)
+pub execute_selection_set-shape_of-text-in_default : goal.execute_selection_set-shape_of-text-in_default
+execute_selection_set-shape_of-text-in_default t c = set_text c.requires (set_lost c.requires c.group_count-groups.ensures refl c.clear_spans.ensures c.loop-taken.invariant c.loop-taken-test.true c.next_group-group.ensures c.past_choice.ensures c.enter_field-d.ensures c.in_default.is)
 
-pub execute_selection_set-shape_of-errors-in-Err : goal.execute_selection_set-shape_of-errors-in-Err
-execute_selection_set-shape_of-errors-in-Err t c = set_errors c.requires (set_lost c.requires c.group_count-groups.ensures refl c.clear_spans.ensures c.loop-taken.invariant c.loop-taken-test.true c.next_group-group.ensures c.past_choice.ensures c.enter_field-d.ensures c.in-Err.is)
+pub execute_selection_set-shape_of-errors-in_default : goal.execute_selection_set-shape_of-errors-in_default
+execute_selection_set-shape_of-errors-in_default t c = set_errors c.requires (set_lost c.requires c.group_count-groups.ensures refl c.clear_spans.ensures c.loop-taken.invariant c.loop-taken-test.true c.next_group-group.ensures c.past_choice.ensures c.enter_field-d.ensures c.in_default.is)
 
-pub execute_selection_set-shape_of-plans-in-Err : goal.execute_selection_set-shape_of-plans-in-Err
-execute_selection_set-shape_of-plans-in-Err t c = (set_lost c.requires c.group_count-groups.ensures refl c.clear_spans.ensures c.loop-taken.invariant c.loop-taken-test.true c.next_group-group.ensures c.past_choice.ensures c.enter_field-d.ensures c.in-Err.is).left.kept.sized
+pub execute_selection_set-shape_of-plans-in_default : goal.execute_selection_set-shape_of-plans-in_default
+execute_selection_set-shape_of-plans-in_default t c = (set_lost c.requires c.group_count-groups.ensures refl c.clear_spans.ensures c.loop-taken.invariant c.loop-taken-test.true c.next_group-group.ensures c.past_choice.ensures c.enter_field-d.ensures c.in_default.is).left.kept.sized
 
-pub execute_selection_set-shape_of-spans-in-Err : goal.execute_selection_set-shape_of-spans-in-Err
-execute_selection_set-shape_of-spans-in-Err t c = (set_lost c.requires c.group_count-groups.ensures refl c.clear_spans.ensures c.loop-taken.invariant c.loop-taken-test.true c.next_group-group.ensures c.past_choice.ensures c.enter_field-d.ensures c.in-Err.is).left.unspanned.sized
+pub execute_selection_set-shape_of-spans-in_default : goal.execute_selection_set-shape_of-spans-in_default
+execute_selection_set-shape_of-spans-in_default t c = (set_lost c.requires c.group_count-groups.ensures refl c.clear_spans.ensures c.loop-taken.invariant c.loop-taken-test.true c.next_group-group.ensures c.past_choice.ensures c.enter_field-d.ensures c.in_default.is).left.unspanned.sized
 
-pub execute_selection_set-shape_of-hints-in-Err : goal.execute_selection_set-shape_of-hints-in-Err
-execute_selection_set-shape_of-hints-in-Err t c = (set_lost c.requires c.group_count-groups.ensures refl c.clear_spans.ensures c.loop-taken.invariant c.loop-taken-test.true c.next_group-group.ensures c.past_choice.ensures c.enter_field-d.ensures c.in-Err.is).left.hinted
+pub execute_selection_set-shape_of-hints-in_default : goal.execute_selection_set-shape_of-hints-in_default
+execute_selection_set-shape_of-hints-in_default t c = (set_lost c.requires c.group_count-groups.ensures refl c.clear_spans.ensures c.loop-taken.invariant c.loop-taken-test.true c.next_group-group.ensures c.past_choice.ensures c.enter_field-d.ensures c.in_default.is).left.hinted
 
-pub execute_selection_set-returns-in-Err : goal.execute_selection_set-returns-in-Err
-execute_selection_set-returns-in-Err t c = rw (c.past_list.ensures, c.moved.ensures) (set_lost c.requires c.group_count-groups.ensures refl c.clear_spans.ensures c.loop-taken.invariant c.loop-taken-test.true c.next_group-group.ensures c.past_choice.ensures c.enter_field-d.ensures c.in-Err.is)
+pub execute_selection_set-returns-in_default : goal.execute_selection_set-returns-in_default
+execute_selection_set-returns-in_default t c = rw (c.past_list.ensures, c.moved.ensures) (set_lost c.requires c.group_count-groups.ensures refl c.clear_spans.ensures c.loop-taken.invariant c.loop-taken-test.true c.next_group-group.ensures c.past_choice.ensures c.enter_field-d.ensures c.in_default.is)
 
 pub execute_selection_set-put_in_place-low-requires : goal.execute_selection_set-put_in_place-low-requires
 execute_selection_set-put_in_place-low-requires t c = set_room c.requires c.group_count-groups.ensures refl c.clear_spans.ensures c.loop-taken.invariant c.loop-taken-test.true c.next_group-group.ensures c.past_choice.ensures c.enter_field-d.ensures
@@ -135,7 +135,7 @@ pub execute_selection_set-loop-taken-smaller : goal.execute_selection_set-loop-t
 execute_selection_set-loop-taken-smaller t c = omega (arith, c.loop-taken-test.true)
 
 pub execute_selection_set-loop-taken-preserved : goal.execute_selection_set-loop-taken-preserved
-execute_selection_set-loop-taken-preserved t c = set_again c.requires c.group_count-groups.ensures refl c.clear_spans.ensures c.loop-taken.invariant c.loop-taken-test.true c.next_group-group.ensures c.past_choice.ensures c.enter_field-d.ensures c.in_default.is (search rules) c.put_in_place-low.ensures
+execute_selection_set-loop-taken-preserved t c = set_again c.requires c.group_count-groups.ensures refl c.clear_spans.ensures c.loop-taken.invariant c.loop-taken-test.true c.next_group-group.ensures c.past_choice.ensures c.enter_field-d.ensures c.in-Ok.is (search rules) c.put_in_place-low.ensures
 
 pub execute_selection_set-returns : goal.execute_selection_set-returns
 execute_selection_set-returns t c = rw c.placed.ensures (set_ended c.requires c.group_count-groups.ensures refl c.clear_spans.ensures c.loop-taken.invariant c.loop-taken-test.false c.close-end.ensures)
