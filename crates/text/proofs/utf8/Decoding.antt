@@ -105,13 +105,6 @@ completes_short n (suc k) p (b ∷ t) h =
 
 -- ---- the ways through `decode_sequence`
 
-pub leads_small : (a n : ℕ) → Leads a n → n < 7
-leads_small a n (two h k) = omega arith
-leads_small a n (three h k) = omega arith
-leads_small a n (four h k) = omega arith
-leads_small a n (single h) = omega arith
-leads_small a n (beyond h) = omega arith
-
 module _ (s : List ℕ) (at : ℕ) (inside : at < length s) where
   module _ (n : ℕ) (leads : Leads (get_or s at 0) n) (led : 0 < n) where
     many : n ≡ 0 → ⊥
@@ -217,20 +210,6 @@ module _ (s : List ℕ) (at next : ℕ) (past : PastAscii s 1 at next) where
       absurd (true≢false z))
       (λ (p : at < next). omega arith)
       (le_or_lt next at)
-
-module _ (s : List ℕ) (at : ℕ) (found : Option Decoded) (decodes : Decodes s at found) where
-  module _ (character : Decoded) (e : found ≡ Some character) where
-    read_char : ReadChar s at character.point character.next
-    read_char = subst (λ (d : Option Decoded). Decodes s at d) e decodes
-
-    pub utf8_nearer : at < length s → length s - character.next < length s - at
-    utf8_nearer h = let char = read_char in omega arith
-
-    pub utf8_more : is_utf8 s ≡ is_utf8 (drop at s) → is_utf8 s ≡ is_utf8 (drop character.next s)
-    utf8_more inv = inv ∙ read_char.same
-
-  pub utf8_broken : found ≡ None → is_utf8 s ≡ is_utf8 (drop at s) → false ≡ is_utf8 s
-  utf8_broken e inv = sym (inv ∙ subst (λ (d : Option Decoded). Decodes s at d) e decodes)
 
 pub utf8_ended : (s : List ℕ) (at : ℕ) → is_utf8 s ≡ is_utf8 (drop at s) → length s ≤ at → true ≡ is_utf8 s
 unfolding is_utf8 octets_after

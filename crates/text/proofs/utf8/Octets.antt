@@ -69,12 +69,6 @@ lead_masked n a h =
     let mask : 127 / 2 ^ n ≡ 2 ^ (7 - n) - 1 = ap (λ (k : ℕ). k / 2 ^ n) wide ∙ high (2 ^ (7 - n) - 1) n (ones_lt n) in
     ap (bit_and a) mask ∙ and_mask a (7 - n)
 
-pub tail_appended : (p b w : ℕ) → p < 2 ^ 26 → w ≡ bit_and b 63 → bit_or (p * 64 % 4294967296) w ≡ p * 64 + b % 64
-tail_appended p b w h e =
-    let bits : w ≡ b % 64 = e ∙ and_mask b 6 in
-    let kept : p * 64 % 4294967296 ≡ p * 64 = mod-eq_of_lt (omega arith) in
-    rw (kept, bits) (or_shifted p 6 (b % 64) (omega arith))
-
 -- ---- the code points that a sequence may spell
 
 module _ (n p l : ℕ) (e : l ≡ least_for n) where
