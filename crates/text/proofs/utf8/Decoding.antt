@@ -1,7 +1,7 @@
 -- A sequence while its continuation octets are read: what is still to come decides as `completes` says, and each octet that is
 -- read is taken off its front. One law for each way through `decode_sequence`, `decode` and `is_utf8`.
 -- Assumes nothing.
-use mathlib.Core.Path.{◌≡◌, refl, sym, ap, ◌∙◌, subst}
+use mathlib.Core.Path.{◌≡◌, refl, sym, ap, ◌∙◌}
 use mathlib.Core.Bool.{Bool, true, false, not, ◌&&◌, and-false, true≢false}
 use mathlib.Core.Logic.{⊎_elim}
 use mathlib.Core.List.{List, [], ◌∷◌}
@@ -14,9 +14,7 @@ use lib.Seq.{drop-drop}
 use Rattle.text.specs.Grammar.{◌∈◌}
 use Rattle.text.specs.Utf8.{UTF8-tail, is_utf8, octets_after, Leads, two, three, four, single, beyond, lead_bits, allowed, character_number}
 use Rattle.text.specs.Ascii.{is_ascii}
-use Rattle.text.specs.Found.{PastAscii, ReadChar, Decodes}
-use Rattle.text.specs.declared.utf8.Decoded.{Decoded}
-use Rattle.std.specs.Prelude.{Option, Some, None}
+use Rattle.text.specs.Found.{PastAscii, ReadChar}
 use Rattle.text.proofs.Reading.{drop_here, drop_over, le_or_lt}
 use mir.Syntax.{w8}
 use Rattle.std.specs.Int.{leading_ones}

@@ -4,12 +4,11 @@
 use mathlib.Core.Path.{◌≡◌, refl, sym, ap, ◌∙◌, subst}
 use mathlib.Core.Bool.{Bool, true, false, cond, not}
 use mathlib.Core.Logic.{⊎_elim}
-use Prim.Native.Nat.{ℕ, ◌+◌, ◌-◌, ◌*◌, ◌/◌, ◌%◌, ◌^◌, ◌≤◌, ◌<◌}
-use native.Mathlib.Nat.{mod-eq_of_lt}
+use Prim.Native.Nat.{ℕ, ◌+◌, ◌-◌, ◌*◌, ◌/◌, ◌^◌, ◌≤◌, ◌<◌}
 use native.Mathlib.Omega.{arith}
 use borrow.Author.Tests.{le-leb, lt-leb, ne_eqb, not-true}
 use lib.Dec.{leb, eqb}
-use lib.Bits.{bit_and, bit_or, and_mask, or_shifted}
+use lib.Bits.{bit_and, and_mask}
 use lib.Pow.{ones_split, high, ones_lt}
 use lib.Count.{count_leading_zeros}
 use mir.Syntax.{w8}
