@@ -3,7 +3,7 @@ ghost use Rattle.std.specs.Prelude.{◌≡◌};
 ghost use Rattle.codes.specs.Errors.{number_of, place_of};
 
 // What can go wrong with a field, in the order of document 01.
-#[derive(Clone, Copy)]
+#[derive(Clone, Copy, PartialEq, Eq, Debug)]
 pub enum FieldError {
     Resolver,
     NullForNonNull,
@@ -32,14 +32,16 @@ pub enum FieldError {
 }
 
 // The kind of place that an error record has.
-#[derive(Clone, Copy)]
+#[derive(Clone, Copy, PartialEq, Eq, Debug)]
 pub enum PlaceKind {
     FirstField,
     ArgumentDefinition,
     Literal,
 }
 
-#[derive(Clone, Copy)]
+// A number that may be one of the codes. It stands beside the enum because document 01 asks for the error code type with its constants and each
+// code's kind of place (docs/DECISIONS.md, 14); `place` answers for every number.
+#[derive(Clone, Copy, PartialEq, Eq, Debug)]
 pub struct ErrorCode {
     pub number: u32,
 }
@@ -94,32 +96,24 @@ impl ErrorCode {
     pub const MISSING_ARGUMENT: u32 = 24;
 
     // "Place: argument definition for 16 and 24, the literal for 17 to 23, else the first field."
+    #[tactic(auto, unfolding(crate::specs::Errors::place_of))]
     pub fn place(self) -> PlaceKind
         ensures { result ≡ place_of self.number }
     {
-        let number = self.number;
-        if number == Self::NULL_ARGUMENT {
-            return PlaceKind::ArgumentDefinition;
+        match self.number {
+            Self::NULL_ARGUMENT | Self::MISSING_ARGUMENT => PlaceKind::ArgumentDefinition,
+            Self::INNER_NULL..=Self::CANNOT_COERCE => PlaceKind::Literal,
+            _ => PlaceKind::FirstField,
         }
-        if number == Self::MISSING_ARGUMENT {
-            return PlaceKind::ArgumentDefinition;
-        }
-        if number < Self::INNER_NULL {
-            return PlaceKind::FirstField;
-        }
-        if number <= Self::CANNOT_COERCE {
-            return PlaceKind::Literal;
-        }
-        PlaceKind::FirstField
     }
 }
 
-impl FieldError {
-    // Document 01's number for it.
-    pub fn number(self) -> u32
-        ensures { result ≡ number_of self }
-    {
-        match self {
+// Document 01's number for an error.
+impl From<FieldError> for u32 {
+    ghost from_gives = { λ error number. number ≡ number_of error };
+
+    fn from(error: FieldError) -> u32 {
+        match error {
             FieldError::Resolver => ErrorCode::RESOLVER,
             FieldError::NullForNonNull => ErrorCode::NULL_FOR_NON_NULL,
             FieldError::ListTypeWithoutList => ErrorCode::LIST_TYPE_WITHOUT_LIST,
@@ -145,5 +139,13 @@ impl FieldError {
             FieldError::CannotCoerce => ErrorCode::CANNOT_COERCE,
             FieldError::MissingArgument => ErrorCode::MISSING_ARGUMENT,
         }
+    }
+}
+
+impl FieldError {
+    pub fn number(self) -> u32
+        ensures { result ≡ number_of self }
+    {
+        u32::from(self)
     }
 }

@@ -2,7 +2,7 @@
 ghost use Rattle.std.specs.Prelude.{◌≡◌};
 ghost use Rattle.codes.specs.Outcome.{code_of};
 
-#[derive(Clone, Copy)]
+#[derive(Clone, Copy, PartialEq, Eq, Debug)]
 pub enum Outcome {
     Answered,
     // A table or a buffer breaks a rule.
@@ -21,11 +21,11 @@ pub enum Outcome {
     TooDeep,
 }
 
-impl Outcome {
-    pub fn code(self) -> u32
-        ensures { result ≡ code_of self }
-    {
-        match self {
+impl From<Outcome> for u32 {
+    ghost from_gives = { λ outcome code. code ≡ code_of outcome };
+
+    fn from(outcome: Outcome) -> u32 {
+        match outcome {
             Outcome::Answered => 0,
             Outcome::Unlawful => 1,
             Outcome::AsksForSchema => 2,
@@ -36,5 +36,13 @@ impl Outcome {
             Outcome::RecordsTooLong => 7,
             Outcome::TooDeep => 8,
         }
+    }
+}
+
+impl Outcome {
+    pub fn code(self) -> u32
+        ensures { result ≡ code_of self }
+    {
+        u32::from(self)
     }
 }

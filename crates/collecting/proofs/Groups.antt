@@ -8,9 +8,8 @@ use Rattle.codes.specs.Outcome.{most_open, most_collected}
 use Rattle.graphql.specs.Run.{M, pure, onward, ◌>>=◌}
 use Rattle.graphql.specs.Lookup.{rows_in}
 use Rattle.graphql.specs.Collect.{Collected, none_yet, collect}
-use Rattle.collecting.specs.Collecting.{Comes, Groups, rows_done, CollectsRows}
-use Rattle.collecting.specs.declared.collect.Collecting.{Collecting}
-use Rattle.collecting.specs.declared.collect.Collecting.TheVariants.{On, TooFar, TooManyFields}
+use Rattle.std.specs.Prelude.{Ok, Err}
+use Rattle.collecting.specs.Collecting.{Collecting, Comes, Groups, rows_done, CollectsRows}
 use Rattle.collecting.proofs.Shown.{shows_none}
 use Rattle.collecting.proofs.Ends.{went}
 
@@ -26,6 +25,5 @@ module _ (types members sets selections fragments nodes variables : List ℕ) (o
     where
       go : (r : Collecting) → Comes selections fragments fields r after
           → Groups selections (collect types members sets selections fragments variables nodes object (rows_in rows)) r after
-      go (On g) h = λ k. went fields (λ c. pure c.groups) h.collected k (h.is k) ∙ rw h.shows.groups
-      go TooFar h = λ k. rw (h k)
-      go TooManyFields h = λ k. rw (h k)
+      go (Ok g) h = λ k. went fields (λ c. pure c.groups) h.collected k (h.is k) ∙ rw h.shows.groups
+      go (Err o) h = λ k. rw (h k)

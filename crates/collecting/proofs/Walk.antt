@@ -2,7 +2,7 @@
 use mathlib.Core.Path.{◌≡◌, refl, sym, ◌∙◌}
 use mathlib.Core.Bool.{Bool, true, false, not, cond, ◌||◌}
 use mathlib.Core.List.{List}
-use Rattle.std.specs.Prelude.{Option, Some, None}
+use Rattle.std.specs.Prelude.{Option, Some, None, Ok, Err}
 use Prim.Native.Nat.{ℕ, zero, suc, ◌+◌, ◌-◌, ◌≤◌, ◌<◌}
 use native.Mathlib.Nat.{add-zero, sub-zero}
 use native.Mathlib.Omega.{arith}
@@ -19,18 +19,18 @@ use Rattle.rows.specs.declared.document.Selected.TheVariants.{Field, Spread, Inl
 use Rattle.rows.specs.declared.document.Selection.{Selection}
 use Rattle.rows.specs.declared.document.Fragment.{Fragment}
 use Rattle.rows.proofs.Every.{falsified, verified}
+use Rattle.codes.specs.declared.outcome.Outcome.{Outcome}
+use Rattle.codes.specs.declared.outcome.Outcome.TheVariants.{TooFar, TooManyFields}
 use Rattle.codes.specs.Outcome.{most_collected}
 use Rattle.graphql.specs.Run.{Choices, M, pure, halt, when, ◌>>=◌}
 use Rattle.graphql.specs.Lookup.{any, rows_from, rows_in, selections_of, fragment_named}
 use Rattle.graphql.specs.Collect.{Collected, visit, grouped, collect_field, holds, dropped, does_fragment_type_apply, inline_applies, enter_fragment, spread, collect_selected, collect_fields, collect_within}
 use Rattle.lookup.proofs.Fragments.{found_none, found_some, row_below}
 use Rattle.collecting.specs.Visited.{is_marked}
-use Rattle.collecting.specs.Collecting.{Collectable, Shows, GoesOn, set_done, spread_done, inline_done, selection_done, rows_done, CollectsField, CollectsSet, CollectsSpread, CollectsInline, CollectsSelection, CollectsRows}
+use Rattle.collecting.specs.Collecting.{Collecting, Collectable, Shows, GoesOn, set_done, spread_done, inline_done, selection_done, rows_done, CollectsField, CollectsSet, CollectsSpread, CollectsInline, CollectsSelection, CollectsRows}
 use Rattle.collecting.specs.declared.collect.Gathered.{Gathered}
-use Rattle.collecting.specs.declared.collect.Collecting.{Collecting}
-use Rattle.collecting.specs.declared.collect.Collecting.TheVariants.{On, TooFar, TooManyFields}
 use Rattle.collecting.proofs.Shown.{shows_field, shows_undefined, shows_visited}
-use Rattle.collecting.proofs.Ends.{stays, like, Stopped, comes_as, stopped, went}
+use Rattle.collecting.proofs.Ends.{stays, like, comes_as, stopped, went}
 
 -- the walk goes on with a list that is as long
 pub collect_on : {types sets fragments list list' : List ℕ} → Collectable types sets fragments list → length list' ≡ length list
@@ -51,7 +51,7 @@ set_within inner w e = rw e (w.within inner)
 -- ---- a field
 
 module _ (row : ℕ) {list : List ℕ} {g : Gathered} where
-  pub field_full : most_collected ≤ g.count → CollectsField row list g TooManyFields list
+  pub field_full : most_collected ≤ g.count → CollectsField row list g (Err TooManyFields) list
   unfolding collect_field when halt
   field_full l selections fragments f = record {
     kept = refl;
@@ -59,7 +59,7 @@ module _ (row : ℕ) {list : List ℕ} {g : Gathered} where
   }
 
   pub field_put : g.count < most_collected
-      → CollectsField row list g (On (record { visited = g.visited; count = g.count + 1 })) (set list g.count row)
+      → CollectsField row list g (Ok (record { visited = g.visited; count = g.count + 1 })) (set list g.count row)
   unfolding collect_field when pure
   field_put l selections fragments f = record {
     kept = length-set list g.count row;
@@ -109,7 +109,7 @@ module _ (types members sets selections fragments nodes variables : List ℕ) (r
 module _ (types members sets selections fragments nodes variables : List ℕ) (room object : ℕ) {list : List ℕ} {g : Gathered} where
   -- ---- a set
 
-  pub set_full : (inner : ℕ) → room ≡ 0 → CollectsSet types members sets selections fragments nodes variables room object inner list g TooFar list
+  pub set_full : (inner : ℕ) → room ≡ 0 → CollectsSet types members sets selections fragments nodes variables room object inner list g (Err TooFar) list
   unfolding collect_within halt
   set_full inner z = rw z (record { kept = refl; collects = λ c s k. refl })
 
@@ -128,7 +128,7 @@ module _ (types members sets selections fragments nodes variables : List ℕ) (r
   -- ---- a spread
 
   module _ (name : ℕ) {found : Option ℕ} (e : found ≡ (fragment_named fragments name)) where
-    pub spread_undefined : found ≡ None → CollectsSpread types members sets selections fragments nodes variables room object name list g (On g) list
+    pub spread_undefined : found ≡ None → CollectsSpread types members sets selections fragments nodes variables room object name list g (Ok g) list
     unfolding spread when enter_fragment pure
     spread_undefined h = record { kept = refl; collects = λ c s. go c s (any (λ v. eqb v name) c.visited) refl }
       where
@@ -142,7 +142,7 @@ module _ (types members sets selections fragments nodes variables : List ℕ) (r
         }
 
     module _ {row : ℕ} (h : found ≡ Some row) {seen : Bool} (m : seen ≡ is_marked row g.visited) where
-      pub spread_again : seen ≡ true → CollectsSpread types members sets selections fragments nodes variables room object name list g (On g) list
+      pub spread_again : seen ≡ true → CollectsSpread types members sets selections fragments nodes variables room object name list g (Ok g) list
       unfolding spread when
       spread_again t =
           stays selections fragments (spread_done types members sets selections fragments nodes variables room object name) (λ c. c)
@@ -151,7 +151,7 @@ module _ (types members sets selections fragments nodes variables : List ℕ) (r
       module _ (n : seen ≡ false) (bits : ℕ) (marks : (other : ℕ) → is_marked other bits ≡ (eqb other row || is_marked other g.visited))
           {fragment : Fragment} (read : fragment ≡ fragment_at fragments row)
           {applies : Bool} (does : applies ≡ does_fragment_type_apply types members object fragment.condition) where
-        pub spread_other : not applies ≡ true → CollectsSpread types members sets selections fragments nodes variables room object name list g (On (record { visited = bits; count = g.count })) list
+        pub spread_other : not applies ≡ true → CollectsSpread types members sets selections fragments nodes variables room object name list g (Ok (record { visited = bits; count = g.count })) list
         unfolding when
         spread_other a =
             let f = found_some (fragment_named fragments name) e h in
@@ -176,7 +176,7 @@ module _ (types members sets selections fragments nodes variables : List ℕ) (r
   -- ---- an inline fragment
 
   module _ (type : Option ℕ) (inner : ℕ) {applies : Bool} (does : applies ≡ inline_applies types members object type) where
-    pub inline_other : not applies ≡ true → CollectsInline types members sets selections fragments nodes variables room object type inner list g (On g) list
+    pub inline_other : not applies ≡ true → CollectsInline types members sets selections fragments nodes variables room object type inner list g (Ok g) list
     unfolding when
     inline_other a =
         stays selections fragments (inline_done types members sets selections fragments nodes variables room object type inner) (λ c. c)
@@ -193,7 +193,7 @@ module _ (types members sets selections fragments nodes variables : List ℕ) (r
 
   module _ (row : ℕ) {s : Selection} (e : s ≡ selection_at selections row)
       {drops : Bool} (d : drops ≡ (holds variables nodes false s.skip || not (holds variables nodes true s.include))) where
-    pub selection_dropped : drops ≡ true → CollectsSelection types members sets selections fragments nodes variables room object row list g (On g) list
+    pub selection_dropped : drops ≡ true → CollectsSelection types members sets selections fragments nodes variables room object row list g (Ok g) list
     unfolding when
     selection_dropped t =
         stays selections fragments (selection_done types members sets selections fragments nodes variables room object row) (λ c. c)
@@ -221,7 +221,7 @@ module _ (types members sets selections fragments nodes variables : List ℕ) (r
       selection_inline {type = type'} {inner = inner'} w q =
           like selections fragments (selection_done types members sets selections fragments nodes variables room object row) (λ c. c) (inline_done types members sets selections fragments nodes variables room object type' inner') (λ c s. (kept types members sets selections fragments nodes variables room object row e d n w c, s)) q
 
-      pub selection_unknown : s.what ≡ Unknown → CollectsSelection types members sets selections fragments nodes variables room object row list g (On g) list
+      pub selection_unknown : s.what ≡ Unknown → CollectsSelection types members sets selections fragments nodes variables room object row list g (Ok g) list
       unfolding collect_selected
       selection_unknown w = stays selections fragments (selection_done types members sets selections fragments nodes variables room object row) (λ c. c) (λ c s. (kept types members sets selections fragments nodes variables room object row e d n w c, s))
 
@@ -262,7 +262,7 @@ module _ (types members sets selections fragments nodes variables : List ℕ) (r
         let u : rows.first + (i + 1) ≡ suc (rows.first + i) = omega arith in
         rw u (rw t at ((a.gone c₀ s).left k))
 
-    pub going_again : {g' : Gathered} → r ≡ On g' → Going list' g' (i + 1)
+    pub going_again : {g' : Gathered} → r ≡ Ok g' → Going list' g' (i + 1)
     going_again {g' = after} e = record {
       below = omega arith;
       within = a.within;
@@ -277,17 +277,17 @@ module _ (types members sets selections fragments nodes variables : List ℕ) (r
           };
     }
 
-    pub going_stopped : Stopped r → CollectsRows types members sets selections fragments nodes variables room object rows list₀ g₀ r list'
+    pub going_stopped : {o : Outcome} → r ≡ Err o → CollectsRows types members sets selections fragments nodes variables room object rows list₀ g₀ (Err o) list'
     unfolding rows_in
-    going_stopped o = record {
+    going_stopped {o = why} e = record {
       kept = q.kept ∙ a.kept;
       collects = λ c₀ s.
-          comes_as selections fragments r list' (next c₀ s)
-          (stopped selections fragments _ _ r list' o (q.collects (a.gone c₀ s).collected (a.gone c₀ s).shows));
+          comes_as selections fragments (Err why) list' (next c₀ s)
+          (stopped selections fragments _ _ why list' (rw e at (q.collects (a.gone c₀ s).collected (a.gone c₀ s).shows)));
     }
 
   pub going_ended : {list : List ℕ} {g : Gathered} {i : ℕ} → Going list g i → rows.count ≤ i
-      → CollectsRows types members sets selections fragments nodes variables room object rows list₀ g₀ (On g) list
+      → CollectsRows types members sets selections fragments nodes variables room object rows list₀ g₀ (Ok g) list
   unfolding collect_fields rows_from rows_in pure
   going_ended {i = i'} a l =
       let z : rows.count - i' ≡ 0 = omega arith in

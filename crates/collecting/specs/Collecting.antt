@@ -1,21 +1,20 @@
 -- What the functions of CollectFields ensure, by its definition: a list of rows and the bits of a number stand for what was collected.
 use Rattle.std.specs.Prelude.{◌≡◌, List, [], ◌∷◌, ℕ, ◌+◌, ◌≤◌, ◌<◌, eqb, length, get_or, take}
-use Rattle.std.specs.Prelude.{Option, Some}
+use Rattle.std.specs.Prelude.{Option, Some, Result, Ok, Err}
 use Rattle.rows.specs.Layout.{fragment_width}
 use Rattle.rows.specs.Limits.{most_selections, most_fragments}
 use Rattle.rows.specs.Rows.{rows_of}
 use Rattle.rows.specs.Document.{set_at, field_selection, selection_at}
 use Rattle.rows.specs.declared.layout.Range.{Range}
 use Rattle.rows.specs.declared.document.Selected.TheVariants.{Field}
-use Rattle.codes.specs.Outcome.{too_far, too_many_fields, most_collected}
+use Rattle.codes.specs.declared.outcome.Outcome.{Outcome}
+use Rattle.codes.specs.Outcome.{code_of, most_collected}
 use Rattle.graphql.specs.Run.{Choices, M, stop, done, pure, when}
 use Rattle.graphql.specs.Lookup.{any, rows_in, fragment_named}
 use Rattle.graphql.specs.Collect.{Group, Collected, grouped, collect_field, dropped, inline_applies, spread, collect_selected, collect_fields, collect_within}
 use Rattle.lookup.specs.Found.{Listed}
 use Rattle.collecting.specs.Visited.{is_marked}
 use Rattle.collecting.specs.declared.collect.Gathered.{Gathered}
-use Rattle.collecting.specs.declared.collect.Collecting.{Collecting}
-use Rattle.collecting.specs.declared.collect.Collecting.TheVariants.{On, TooFar, TooManyFields}
 
 -- ---- What the tables give
 
@@ -32,6 +31,10 @@ pub record FieldRow (selections : List ℕ) (row : ℕ) : Type 0 where
   pub is : (selection_at selections row).what ≡ Field (field_selection selections row)
 
 -- ---- What was collected
+
+-- what is gathered, or why collecting stops
+abbrev pub Collecting : Type 0
+Collecting = Result Gathered Outcome
 
 -- the groups, with the fields of these rows put to them in order
 unfoldable pub groups_of : (selections : List ℕ) → List Group → List ℕ → List Group
@@ -56,9 +59,8 @@ module _ (selections fragments : List ℕ) where
     pub shows : Shows list g collected
 
   abbrev pub Comes : M Collected → Collecting → List ℕ → Type 0
-  Comes m (On g) list = GoesOn m g list
-  Comes m TooFar list = (k : Choices) → m k ≡ stop too_far []
-  Comes m TooManyFields list = (k : Choices) → m k ≡ stop too_many_fields []
+  Comes m (Ok g) list = GoesOn m g list
+  Comes m (Err o) list = (k : Choices) → m k ≡ stop (code_of o) []
 
   -- Whatever was collected before the call, if the list and `g` stand for it, the call comes to what the definition says. What stands in
   -- the list where it stopped is nobody's.
@@ -68,9 +70,8 @@ module _ (selections fragments : List ℕ) where
 
 -- what a collection that begins with nothing comes to: the groups of a selection set
 abbrev pub Groups : (selections : List ℕ) → M (List Group) → Collecting → List ℕ → Type 0
-Groups selections m (On g) list = (k : Choices) → m k ≡ done (groups_of selections [] (take g.count list)) [] k
-Groups selections m TooFar list = (k : Choices) → m k ≡ stop too_far []
-Groups selections m TooManyFields list = (k : Choices) → m k ≡ stop too_many_fields []
+Groups selections m (Ok g) list = (k : Choices) → m k ≡ done (groups_of selections [] (take g.count list)) [] k
+Groups selections m (Err o) list = (k : Choices) → m k ≡ stop (code_of o) []
 
 -- ---- What each function comes to
 

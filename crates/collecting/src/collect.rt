@@ -3,42 +3,44 @@ ghost use Rattle.std.specs.Prelude.{◌≡◌, ◌+◌, ◌≤◌, ◌<◌, leng
 ghost use Rattle.rows.specs.Limits.{most_selections};
 ghost use Rattle.codes.specs.Outcome.{most_collected};
 ghost use Rattle.collecting.specs.Collecting.{Collectable, CollectsField, CollectsSet, CollectsSpread, CollectsInline, CollectsSelection, CollectsRows};
+ghost use Rattle.tables.specs.Tables.{lent};
 
 use crate::conditions::is_dropped;
 use crate::fragments::{does_fragment_type_apply, inline_applies};
 use crate::visited::{is_visited, with_visited};
+use codes::outcome::Outcome;
 use lookup::named::fragment_named;
 use rows::document::{Selected, fragment_at, selection_at, set_at};
 use rows::layout::Range;
+use rows::tables::Tables;
 
 // "A 129th field is collected for one set" is code 4.
 pub const MOST_COLLECTED: usize = 128;
 
-// What has been collected: the fragments visited, a bit for each row, and how many fields. The fields stand in a lent array.
+// What has been collected: the fragments visited, a bit for each row, and how many fields. The fields stand in an array that the caller lends, since
+// there is no heap; the two words beside it go by value from step to step.
 #[derive(Clone, Copy)]
 pub struct Gathered {
     pub visited: u64,
     pub count: usize,
 }
 
-// How a collection goes on, or stops: a 33rd fragment would be open, or a 129th field collected.
-#[derive(Clone, Copy)]
-pub enum Collecting {
-    On(Gathered),
-    TooFar,
-    TooManyFields,
-}
+pub const NOTHING_YET: Gathered = Gathered {
+    visited: 0,
+    count: 0,
+};
 
-fn collect_field(list: &mut [u16], row: u32, gathered: Gathered) -> Collecting
+// What is gathered with one field more; or why collecting stops: a 33rd fragment would be open, or a 129th field collected.
+fn collect_field(list: &mut [u16], row: u32, gathered: Gathered) -> Result<Gathered, Outcome>
     requires { (length list.old ≡ most_collected) × (row < most_selections) }
     ensures { CollectsField row list.old gathered result list.new }
 {
     let count = gathered.count;
     if MOST_COLLECTED <= count {
-        return Collecting::TooManyFields;
+        return Err(Outcome::TooManyFields);
     }
     list[count] = row as u16;
-    Collecting::On(Gathered {
+    Ok(Gathered {
         visited: gathered.visited,
         count: count + 1,
     })
@@ -47,209 +49,120 @@ fn collect_field(list: &mut [u16], row: u32, gathered: Gathered) -> Collecting
 // The selections of a fragment's set, one more fragment being open. `room` is how many may still be opened.
 #[cycle(collect_fields_collect_inline_collect_selection_collect_spread_open_set)]
 fn open_set(
-    types: &[u32],
-    members: &[u32],
-    sets: &[u32],
-    selections: &[u32],
-    fragments: &[u32],
-    nodes: &[u32],
-    variables: &[u32],
+    tables: &Tables,
     list: &mut [u16],
     object: u32,
     set: u32,
     room: u32,
     gathered: Gathered,
-) -> Collecting
-    requires { Collectable types.now sets.now fragments.now list.old }
-    ensures { CollectsSet types.now members.now sets.now selections.now fragments.now nodes.now variables.now room object set list.old gathered result list.new }
+) -> Result<Gathered, Outcome>
+    requires { let t = lent tables.now in Collectable t.types t.sets t.fragments list.old }
+    ensures { let t = lent tables.now in CollectsSet t.types t.members t.sets t.selections t.fragments t.nodes t.variables room object set list.old gathered result list.new }
 {
     if room == 0 {
-        return Collecting::TooFar;
+        return Err(Outcome::TooFar);
     }
-    let rows = set_at(sets, set);
-    collect_fields(
-        types,
-        members,
-        sets,
-        selections,
-        fragments,
-        nodes,
-        variables,
-        list,
-        object,
-        rows,
-        room - 1,
-        gathered,
-    )
+    let rows = set_at(tables.sets, set);
+    collect_fields(tables, list, object, rows, room - 1, gathered)
 }
 
 // "A spread is marked visited after that test and before lookup and type test." A name that no fragment has needs no mark.
 #[cycle(collect_fields_collect_inline_collect_selection_collect_spread_open_set)]
 fn collect_spread(
-    types: &[u32],
-    members: &[u32],
-    sets: &[u32],
-    selections: &[u32],
-    fragments: &[u32],
-    nodes: &[u32],
-    variables: &[u32],
+    tables: &Tables,
     list: &mut [u16],
     object: u32,
     name: u32,
     room: u32,
     gathered: Gathered,
-) -> Collecting
-    requires { Collectable types.now sets.now fragments.now list.old }
-    ensures { CollectsSpread types.now members.now sets.now selections.now fragments.now nodes.now variables.now room object name list.old gathered result list.new }
+) -> Result<Gathered, Outcome>
+    requires { let t = lent tables.now in Collectable t.types t.sets t.fragments list.old }
+    ensures { let t = lent tables.now in CollectsSpread t.types t.members t.sets t.selections t.fragments t.nodes t.variables room object name list.old gathered result list.new }
 {
-    let found = fragment_named(fragments, name);
+    let found = fragment_named(tables.fragments, name);
     let Some(row) = found else {
-        return Collecting::On(gathered);
+        return Ok(gathered);
     };
     if is_visited(gathered.visited, row) {
-        return Collecting::On(gathered);
+        return Ok(gathered);
     }
     let marked = Gathered {
         visited: with_visited(gathered.visited, row),
         count: gathered.count,
     };
-    let fragment = fragment_at(fragments, row);
-    if !does_fragment_type_apply(types, members, object, fragment.condition) {
-        return Collecting::On(marked);
+    let fragment = fragment_at(tables.fragments, row);
+    if !does_fragment_type_apply(tables, object, fragment.condition) {
+        return Ok(marked);
     }
-    open_set(
-        types,
-        members,
-        sets,
-        selections,
-        fragments,
-        nodes,
-        variables,
-        list,
-        object,
-        fragment.set,
-        room,
-        marked,
-    )
+    open_set(tables, list, object, fragment.set, room, marked)
 }
 
 #[cycle(collect_fields_collect_inline_collect_selection_collect_spread_open_set)]
 fn collect_inline(
-    types: &[u32],
-    members: &[u32],
-    sets: &[u32],
-    selections: &[u32],
-    fragments: &[u32],
-    nodes: &[u32],
-    variables: &[u32],
+    tables: &Tables,
     list: &mut [u16],
     object: u32,
     condition: Option<u32>,
     set: u32,
     room: u32,
     gathered: Gathered,
-) -> Collecting
-    requires { Collectable types.now sets.now fragments.now list.old }
-    ensures { CollectsInline types.now members.now sets.now selections.now fragments.now nodes.now variables.now room object condition set list.old gathered result list.new }
+) -> Result<Gathered, Outcome>
+    requires { let t = lent tables.now in Collectable t.types t.sets t.fragments list.old }
+    ensures { let t = lent tables.now in CollectsInline t.types t.members t.sets t.selections t.fragments t.nodes t.variables room object condition set list.old gathered result list.new }
 {
-    if !inline_applies(types, members, object, condition) {
-        return Collecting::On(gathered);
+    if !inline_applies(tables, object, condition) {
+        return Ok(gathered);
     }
-    open_set(
-        types, members, sets, selections, fragments, nodes, variables, list, object, set, room,
-        gathered,
-    )
+    open_set(tables, list, object, set, room, gathered)
 }
 
 #[cycle(collect_fields_collect_inline_collect_selection_collect_spread_open_set)]
 fn collect_selection(
-    types: &[u32],
-    members: &[u32],
-    sets: &[u32],
-    selections: &[u32],
-    fragments: &[u32],
-    nodes: &[u32],
-    variables: &[u32],
+    tables: &Tables,
     list: &mut [u16],
     object: u32,
     row: u32,
     room: u32,
     gathered: Gathered,
-) -> Collecting
-    requires { (Collectable types.now sets.now fragments.now list.old) × (row < most_selections) }
-    ensures { CollectsSelection types.now members.now sets.now selections.now fragments.now nodes.now variables.now room object row list.old gathered result list.new }
+) -> Result<Gathered, Outcome>
+    requires { let t = lent tables.now in (Collectable t.types t.sets t.fragments list.old) × (row < most_selections) }
+    ensures { let t = lent tables.now in CollectsSelection t.types t.members t.sets t.selections t.fragments t.nodes t.variables room object row list.old gathered result list.new }
 {
-    let selection = selection_at(selections, row);
+    let selection = selection_at(tables.selections, row);
     let what = selection.what;
     let skip = selection.skip;
     let include = selection.include;
-    if is_dropped(variables, nodes, skip, include) {
-        return Collecting::On(gathered);
+    if is_dropped(tables, skip, include) {
+        return Ok(gathered);
     }
     match what {
         Selected::Field(_) => collect_field(list, row, gathered),
-        Selected::Spread { name } => collect_spread(
-            types, members, sets, selections, fragments, nodes, variables, list, object, name,
-            room, gathered,
-        ),
+        Selected::Spread { name } => collect_spread(tables, list, object, name, room, gathered),
         Selected::Inline { condition, set } => collect_inline(
-            types, members, sets, selections, fragments, nodes, variables, list, object, condition,
-            set, room, gathered,
+            tables, list, object, condition, set, room, gathered,
         ),
-        Selected::Unknown => Collecting::On(gathered),
+        Selected::Unknown => Ok(gathered),
     }
 }
 
 // CollectFields(objectType, selectionSet, variableValues, visitedFragments): the selections in these rows, after what was gathered before.
 #[cycle(collect_fields_collect_inline_collect_selection_collect_spread_open_set)]
 pub fn collect_fields(
-    types: &[u32],
-    members: &[u32],
-    sets: &[u32],
-    selections: &[u32],
-    fragments: &[u32],
-    nodes: &[u32],
-    variables: &[u32],
+    tables: &Tables,
     list: &mut [u16],
     object: u32,
     rows: Range,
     room: u32,
     gathered: Gathered,
-) -> Collecting
-    requires { (Collectable types.now sets.now fragments.now list.old) × (rows.first + rows.count ≤ most_selections) }
-    ensures { CollectsRows types.now members.now sets.now selections.now fragments.now nodes.now variables.now room object rows list.old gathered result list.new }
+) -> Result<Gathered, Outcome>
+    requires { let t = lent tables.now in (Collectable t.types t.sets t.fragments list.old) × (rows.first + rows.count ≤ most_selections) }
+    ensures { let t = lent tables.now in CollectsRows t.types t.members t.sets t.selections t.fragments t.nodes t.variables room object rows list.old gathered result list.new }
 {
     let first = rows.first;
     let count = rows.count;
-    let mut visited = gathered.visited;
-    let mut fields = gathered.count;
+    let mut so_far = gathered;
     for i in 0..count {
-        let so_far = Gathered {
-            visited: visited,
-            count: fields,
-        };
-        let collecting = collect_selection(
-            types,
-            members,
-            sets,
-            selections,
-            fragments,
-            nodes,
-            variables,
-            list,
-            object,
-            first + i,
-            room,
-            so_far,
-        );
-        let Collecting::On(next) = collecting else {
-            return collecting;
-        };
-        visited = next.visited;
-        fields = next.count;
+        so_far = collect_selection(tables, list, object, first + i, room, so_far)?;
     }
-    Collecting::On(Gathered {
-        visited: visited,
-        count: fields,
-    })
+    Ok(so_far)
 }

@@ -3,9 +3,11 @@ ghost use Rattle.std.specs.Prelude.{◌≡◌};
 ghost use Rattle.rows.specs.Schema.{type_at};
 ghost use Rattle.graphql.specs.Collect.{does_fragment_type_apply, inline_applies};
 ghost use Rattle.lookup.specs.Found.{Listed};
+ghost use Rattle.tables.specs.Tables.{lent};
 
 use lookup::named::{lists_name, type_named};
 use rows::schema::{TypeKind, type_at};
+use rows::tables::Tables;
 
 fn type_name(types: &[u32], row: u32) -> u32
     ensures { result ≡ (type_at types.now row).name }
@@ -15,31 +17,31 @@ fn type_name(types: &[u32], row: u32) -> u32
 }
 
 // "A fragment on an object applies to that object, on an interface to objects listing it, on a union to members."
-pub fn does_fragment_type_apply(types: &[u32], members: &[u32], object: u32, condition: u32) -> bool
-    requires { Listed types.now }
-    ensures { result ≡ does_fragment_type_apply types.now members.now object condition }
+pub fn does_fragment_type_apply(tables: &Tables, object: u32, condition: u32) -> bool
+    requires { let t = lent tables.now in Listed t.types }
+    ensures { let t = lent tables.now in result ≡ does_fragment_type_apply t.types t.members object condition }
 {
-    let found = type_named(types, condition);
+    let found = type_named(tables.types, condition);
     let Some(row) = found else {
         return false;
     };
-    let ty = type_at(types, row);
+    let ty = type_at(tables.types, row);
     let kind = ty.kind;
     match kind {
-        TypeKind::Object => condition == type_name(types, object),
-        TypeKind::Interface => lists_name(types, members, object, condition),
-        TypeKind::Union => lists_name(types, members, row, type_name(types, object)),
+        TypeKind::Object => condition == type_name(tables.types, object),
+        TypeKind::Interface => lists_name(tables, object, condition),
+        TypeKind::Union => lists_name(tables, row, type_name(tables.types, object)),
         _ => false,
     }
 }
 
 // An inline fragment with no type applies to all.
-pub fn inline_applies(types: &[u32], members: &[u32], object: u32, condition: Option<u32>) -> bool
-    requires { Listed types.now }
-    ensures { result ≡ inline_applies types.now members.now object condition }
+pub fn inline_applies(tables: &Tables, object: u32, condition: Option<u32>) -> bool
+    requires { let t = lent tables.now in Listed t.types }
+    ensures { let t = lent tables.now in result ≡ inline_applies t.types t.members object condition }
 {
     match condition {
         None => true,
-        Some(name) => does_fragment_type_apply(types, members, object, name),
+        Some(name) => does_fragment_type_apply(tables, object, name),
     }
 }

@@ -1,20 +1,16 @@
 -- A leaf against a type: each answer of the code is what the definition comes to. Assumes nothing.
 use mathlib.Core.Path.{◌≡◌, refl, sym, ◌∙◌}
 use mathlib.Core.Bool.{Bool, true, false, cond, decide}
-use mathlib.Core.List.{List, [], ◌∷◌}
-use Rattle.std.specs.Prelude.{Some}
+use mathlib.Core.List.{List}
+use Rattle.std.specs.Prelude.{Some, Ok, Err}
 use Prim.Native.Nat.{ℕ}
 use lib.Dec.{eqb}
 use borrow.Author.Tests.{ne_eqb}
-use types.Run.{miss}
-use borrow.Enum.Refused.{Among, opened}
-use denote.Enum.Declared.{tag_of}
 use Rattle.rows.specs.Names.{'Int, 'Float, 'String, 'Boolean, 'ID}
 use Rattle.rows.specs.Schema.{type_at}
 use Rattle.rows.specs.declared.schema.TypeDef.{TypeDef}
 use Rattle.rows.specs.declared.schema.TypeKind.{TypeKind}
 use Rattle.rows.specs.declared.schema.TypeKind.TheVariants as kind
-use Rattle.rows.specs.contracts.schema.TypeKind.{the_type}
 use Rattle.codes.specs.declared.errors.FieldError.{FieldError}
 use Rattle.codes.specs.declared.errors.FieldError.TheVariants as error
 use Rattle.graphql.specs.Run.{Path, pure, when}
@@ -28,19 +24,14 @@ use Rattle.graphql.specs.Complete.{Leaf, field_error, takes, scalar_leaf, enum_l
 use Rattle.values.specs.Plain.{said}
 use Rattle.values.specs.declared.sort.Sort.{Sort}
 use Rattle.values.specs.declared.sort.Sort.TheVariants as sorts
-use Rattle.values.specs.contracts.sort.Sort.{the_type as the_sort}
-use Rattle.completing.specs.Judged.{Lent, Shown, judged, is, fitting, int_taken, id_taken, JudgesScalar, JudgesAt, JudgesLeaf, NamesType}
-use Rattle.completing.specs.declared.result_coercion.Verdict.{Verdict}
-use Rattle.completing.specs.declared.result_coercion.Verdict.TheVariants.{Fits, Error}
-use Rattle.completing.specs.declared.result_coercion.Typed.{Typed}
-use Rattle.completing.specs.declared.result_coercion.Typed.TheVariants as typing
+use Rattle.completing.specs.Judged.{Verdict, Typed, Lent, Shown, judged, is, fitting, int_taken, id_taken, JudgesScalar, JudgesAt, JudgesLeaf, NamesType}
 use Rattle.completing.proofs.Binds.{pure_bind, error_bind}
 use Rattle.completing.proofs.Request.{lent_non_null, lent_type}
 use Rattle.completing.proofs.Sorts.{is_it, is_not, null_is, string_there, string_gone}
 
 -- the definition's test is the verdict's
 tested : (Q : Request) (l : Leaf) (g : Group) (p : Path) (ok : Bool) (e : FieldError)
-    → when ok (pure (val (leaf l.json))) (field_error Q e g p) ≡ judged Q (cond ok Fits (Error e)) l g p
+    → when ok (pure (val (leaf l.json))) (field_error Q e g p) ≡ judged Q (cond ok (Ok tt) (Err e)) l g p
 unfolding when
 tested Q l g p true e = refl
 tested Q l g p false e = refl
@@ -76,25 +67,17 @@ module _ {name : ℕ} {sort : Sort} {r : Verdict} where
         by_test {ok = ok} (rw n) (λ j s. rw (n, o, is_it j s defined.a_string, is_it j s defined.an_int, is_it j s defined.a_long)) e
 
   pub scalar_other : (name ≡ 'Int → ⊥) → (name ≡ 'Float → ⊥) → (name ≡ 'String → ⊥) → (name ≡ 'Boolean → ⊥) → (name ≡ 'ID → ⊥)
-      → r ≡ Fits → JudgesScalar name sort r
+      → r ≡ (Ok tt) → JudgesScalar name sort r
   unfolding takes
   scalar_other i f s b d e =
       by_test {ok = true} (ne_eqb _ _ i) (λ j k. rw (ne_eqb _ _ i, ne_eqb _ _ f, ne_eqb _ _ s, ne_eqb _ _ b, ne_eqb _ _ d)) e
 
 -- ---- enums, and every kind
 
--- the numbers of the sorts that are not null
-abbrev others : List ℕ
-others = 1 ∷ 2 ∷ 3 ∷ 4 ∷ 5 ∷ 6 ∷ 7 ∷ []
-
--- the numbers of the kinds that are composite
-abbrev composites : List ℕ
-composites = 2 ∷ 3 ∷ 4 ∷ []
-
 module _ (pool names types members : List ℕ) {type : ℕ} {sort : Sort} {string : List ℕ} where
   module _ {found : Bool} {r : Verdict} where
     pub enum_string : {told : Bool} → told ≡ is defined.a_string sort → told ≡ true → found ≡ has_value pool names types members type string
-        → r ≡ cond found Fits (Error error.NotAnEnumValue) → JudgesAt pool names types members type kind.Enum sort string r
+        → r ≡ cond found (Ok tt) (Err error.NotAnEnumValue) → JudgesAt pool names types members type kind.Enum sort string r
     unfolding leaf_at enum_leaf
     enum_string t y f e = record {
       comes = λ q l s g p. go q l s g p (string_there l.json (is_it l.json s.sorted defined.a_string ∙ sym t ∙ y));
@@ -108,7 +91,7 @@ module _ (pool names types members : List ℕ) {type : ℕ} {sort : Sort} {strin
             rw (e, h, s.spelled b h, has) (tested Q l g p found error.NotAnEnumValue)
 
   pub enum_other : {told : Bool} → told ≡ is defined.a_string sort → told ≡ false
-      → JudgesAt pool names types members type kind.Enum sort string (Error error.NotAnEnumValue)
+      → JudgesAt pool names types members type kind.Enum sort string (Err error.NotAnEnumValue)
   unfolding leaf_at enum_leaf
   enum_other t y = record { comes = λ q l s g p. rw (string_gone l.json (is_it l.json s.sorted defined.a_string ∙ sym t ∙ y)) }
 
@@ -117,29 +100,29 @@ module _ (pool names types members : List ℕ) {type : ℕ} {sort : Sort} {strin
   unfolding leaf_at scalar_leaf
   at_scalar t a = record { comes = λ q l s g p. rw (lent_type q type, ← t, a.tells l.json s.sorted) (tested _ l g p _ _) }
 
-  pub at_input : JudgesAt pool names types members type kind.InputObject sort string (Error error.InputObjectType)
+  pub at_input : JudgesAt pool names types members type kind.InputObject sort string (Err error.InputObjectType)
   unfolding leaf_at
   at_input = record { comes = λ q l s g p. refl }
 
-  pub at_unknown : JudgesAt pool names types members type kind.Unknown sort string (Error error.UndefinedType)
+  pub at_unknown : JudgesAt pool names types members type kind.Unknown sort string (Err error.UndefinedType)
   unfolding leaf_at
   at_unknown = record { comes = λ q l s g p. refl }
 
-  pub at_composite : (k : TypeKind) → Among composites (tag_of the_type k)
-      → JudgesAt pool names types members type k sort string (Error error.LeafForComposite)
+  pub at_composite : (k : TypeKind) → (k ≡ kind.Scalar → ⊥) → (k ≡ kind.Enum → ⊥) → (k ≡ kind.InputObject → ⊥) → (k ≡ kind.Unknown → ⊥)
+      → JudgesAt pool names types members type k sort string (Err error.LeafForComposite)
   unfolding leaf_at
-  at_composite kind.Scalar o = absurd (miss composites 0 tt (opened o))
-  at_composite kind.Enum o = absurd (miss composites 1 tt (opened o))
-  at_composite kind.Object o = record { comes = λ q l s g p. refl }
-  at_composite kind.Interface o = record { comes = λ q l s g p. refl }
-  at_composite kind.Union o = record { comes = λ q l s g p. refl }
-  at_composite kind.InputObject o = absurd (miss composites 5 tt (opened o))
-  at_composite kind.Unknown o = absurd (miss composites 6 tt (opened o))
+  at_composite kind.Scalar a b c d = absurd (a refl)
+  at_composite kind.Enum a b c d = absurd (b refl)
+  at_composite kind.Object a b c d = record { comes = λ q l s g p. refl }
+  at_composite kind.Interface a b c d = record { comes = λ q l s g p. refl }
+  at_composite kind.Union a b c d = record { comes = λ q l s g p. refl }
+  at_composite kind.InputObject a b c d = absurd (c refl)
+  at_composite kind.Unknown a b c d = absurd (d refl)
 
 -- ---- the whole
 
 module _ (pool names refs types members : List ℕ) {ty : ℕ} {sort : Sort} {string : List ℕ} where
-  pub leaf_null : {r : Verdict} → sort ≡ sorts.Null → r ≡ cond (non_null refs ty) (Error error.NullForNonNull) Fits
+  pub leaf_null : {r : Verdict} → sort ≡ sorts.Null → r ≡ cond (non_null refs ty) (Err error.NullForNonNull) (Ok tt)
       → JudgesLeaf pool names refs types members ty sort string r
   unfolding complete_leaf_value when decide
   leaf_null n e = record {
@@ -150,24 +133,24 @@ module _ (pool names refs types members : List ℕ) {ty : ℕ} {sort : Sort} {st
     where
       go : (Q : Request) (l : Leaf) → l.json ≡ defined.null → (g : Group) (p : Path) (b : Bool)
           → when b (field_error Q error.NullForNonNull g p) (pure (val (leaf defined.null)))
-          ≡ judged Q (cond b (Error error.NullForNonNull) Fits) l g p
+          ≡ judged Q (cond b (Err error.NullForNonNull) (Ok tt)) l g p
       go Q l z g p true = refl
       go Q l z g p false = rw z
 
-  module _ (o : Among others (tag_of the_sort sort)) {t : Typed} (named : NamesType refs types ty t) where
-    pub leaf_untyped : {e : FieldError} → t ≡ typing.Error e → JudgesLeaf pool names refs types members ty sort string (Error e)
+  module _ (o : sort ≡ sorts.Null → ⊥) {t : Typed} (named : NamesType refs types ty t) where
+    pub leaf_untyped : {e : FieldError} → t ≡ Err e → JudgesLeaf pool names refs types members ty sort string (Err e)
     unfolding complete_leaf_value when
     leaf_untyped h = record {
       comes = λ q l s g p.
-          rw (is_it l.json s.sorted defined.a_null, is_not defined.a_null sort others o tt, named.comes q g p, h) (error_bind _ _ _ g p);
+          rw (is_it l.json s.sorted defined.a_null, is_not defined.a_null sort o, named.comes q g p, h) (error_bind _ _ _ g p);
     }
 
-    pub leaf_typed : {type : ℕ} {r : Verdict} → t ≡ typing.Type type
+    pub leaf_typed : {type : ℕ} {r : Verdict} → t ≡ Ok type
         → JudgesAt pool names types members type (type_at types type).kind sort string r
         → JudgesLeaf pool names refs types members ty sort string r
     unfolding complete_leaf_value when
     leaf_typed {type} h a = record {
       comes = λ q l s g p.
-          rw (is_it l.json s.sorted defined.a_null, is_not defined.a_null sort others o tt, named.comes q g p, h, pure_bind, lent_type q type)
+          rw (is_it l.json s.sorted defined.a_null, is_not defined.a_null sort o, named.comes q g p, h, pure_bind, lent_type q type)
           (a.comes q l s g p);
     }

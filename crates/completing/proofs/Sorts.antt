@@ -1,15 +1,12 @@
 -- Which sort a leaf has, by what the code is told of it. Assumes nothing.
 use mathlib.Core.Path.{◌≡◌, refl, sym, ap, ◌∙◌}
-use mathlib.Core.Bool.{Bool, true, false, cond, decide, not}
+use mathlib.Core.Bool.{Bool, true, false, cond, decide}
 use mathlib.Core.List.{List}
 use Rattle.std.specs.Prelude.{Some, None}
 use Prim.Native.Nat.{ℕ}
 use native.Mathlib.Omega.{arith}
-use lib.Dec.{T, ltb, leb}
-use types.Run.{miss}
-use borrow.Enum.Refused.{Among, opened}
-use mir.Val.{has_key}
-use denote.Enum.Declared.{tag_of}
+use lib.Dec.{ltb, leb}
+use denote.Enum.Bare.{sameb}
 use Rattle.graphql.specs.Json.{Json, null, bool, natural, negative, float, string, array, object, sort_of, is_a, string_of, sort-discrete}
 use Rattle.graphql.specs.Json as defined
 use Rattle.values.specs.Plain.{said}
@@ -46,15 +43,27 @@ module _ (j : Json) {s : Sort} (e : said (sort_of j) ≡ s) where
   unfolding is_a
   is_it k = rw sort_is
 
--- a sort among some others
-pub is_not : (k : defined.Sort) (s : Sort) (tags : List ℕ) → Among tags (tag_of the_type s)
-    → T (not (has_key tags (tag_of the_type (said k)))) → is k s ≡ false
+-- a sort that is another
+pub is_not : (k : defined.Sort) (s : Sort) → (s ≡ said k → ⊥) → is k s ≡ false
 unfolding decide
-is_not k s tags o m = go (sort-discrete k (meant s))
+is_not k s o = go (sort-discrete k (meant s))
   where
     go : (d : Dec (k ≡ meant s)) → decide d ≡ false
-    go (yes e) = let same : said k ≡ s = ap said e ∙ said_meant s in absurd (miss tags (tag_of the_type s) (rw same at m) (opened o))
+    go (yes e) = absurd (o (sym (ap said e ∙ said_meant s)))
     go (no d) = refl
+
+-- two sorts are the same just if the code finds them so
+pub sames : (k s : Sort) → sameb the_type s k ≡ is (meant k) s
+unfolding decide
+sames sort.Null sort.Null = refl
+sames sort.Boolean sort.Boolean = refl
+sames sort.Int sort.Int = refl
+sames sort.Long sort.Long = refl
+sames sort.Huge sort.Huge = refl
+sames sort.Float sort.Float = refl
+sames sort.String sort.String = refl
+sames sort.Container sort.Container = refl
+sames k s = refl
 
 -- ---- a null, and a string
 

@@ -2,11 +2,12 @@
 -- their answer, in every request that has the tables lent, for every leaf that looks so to the code, at every place.
 use Rattle.std.specs.Prelude.{◌≡◌, Bool, true, cond, ◌&&◌, ◌||◌, List, ℕ, eqb}
 use Rattle.std.proofs.Math.Bool.{decide}
-use Rattle.std.specs.Prelude.{Option, Some, None}
+use Rattle.std.specs.Prelude.{Option, Some, None, Result, Ok, Err}
 use Rattle.rows.specs.Names.{'Int}
 use Rattle.rows.specs.Schema.{type_ref_at, type_at}
 use Rattle.rows.specs.declared.schema.TypeKind.{TypeKind}
 use Rattle.rules.specs.Schema.{object_kind}
+use Rattle.codes.specs.declared.errors.FieldError.{FieldError}
 use Rattle.codes.specs.declared.errors.FieldError.TheVariants as error
 use Rattle.graphql.specs.Run.{Path, M, pure, ◌>>=◌}
 use Rattle.graphql.specs.Json.{Json, sort_of, is_a, string_of, sort-discrete}
@@ -18,10 +19,6 @@ use Rattle.graphql.specs.Complete.{Leaf, takes, field_error, named_type, leaf_at
 use Rattle.values.specs.Plain.{said}
 use Rattle.values.specs.declared.sort.Sort.{Sort}
 use Rattle.values.specs.declared.sort.Sort.TheVariants as sort
-use Rattle.completing.specs.declared.result_coercion.Verdict.{Verdict}
-use Rattle.completing.specs.declared.result_coercion.Verdict.TheVariants as verdict
-use Rattle.completing.specs.declared.result_coercion.Typed.{Typed}
-use Rattle.completing.specs.declared.result_coercion.Typed.TheVariants as typing
 
 -- the tables of the request are those lent
 pub record Lent (Q : Request) (pool names refs types members : List ℕ) : Type 0 where
@@ -38,15 +35,22 @@ pub record Shown (l : Leaf) (sort : Sort) (string : List ℕ) : Type 0 where
 
 -- ---- What an answer says
 
+-- whether a value fits, and a type: or which error it is
+abbrev pub Verdict : Type 0
+Verdict = Result (Unit {0}) FieldError
+
+abbrev pub Typed : Type 0
+Typed = Result ℕ FieldError
+
 -- a leaf that fits is its own value; another is an error at the first field
 abbrev pub judged : Request → Verdict → Leaf → Group → Path → M Val
-judged Q verdict.Fits l g p = pure (val (leaf l.json))
-judged Q (verdict.Error e) l g p = field_error Q e g p
+judged Q (Ok u) l g p = pure (val (leaf l.json))
+judged Q (Err e) l g p = field_error Q e g p
 
 -- a type, or an error at the first field
 abbrev pub typed : Request → Typed → Group → Path → M ℕ
-typed Q (typing.Type type) g p = pure type
-typed Q (typing.Error e) g p = field_error Q e g p
+typed Q (Ok type) g p = pure type
+typed Q (Err e) g p = field_error Q e g p
 
 -- ---- The sort of a leaf
 
@@ -67,10 +71,10 @@ is kind s = decide (sort-discrete kind (meant s))
 
 -- what the scalars take, by the sort alone
 abbrev pub fitting : Bool → Verdict
-fitting ok = cond ok verdict.Fits (verdict.Error error.LeafOfAnotherKind)
+fitting ok = cond ok (Ok tt) (Err error.LeafOfAnotherKind)
 
 abbrev pub int_taken : Sort → Verdict
-int_taken s = cond (is defined.an_int s) verdict.Fits (verdict.Error (cond (is defined.a_long s) error.IntOverflow error.LeafOfAnotherKind))
+int_taken s = cond (is defined.an_int s) (Ok tt) (Err (cond (is defined.a_long s) error.IntOverflow error.LeafOfAnotherKind))
 
 abbrev pub id_taken : Sort → Bool
 id_taken s = is defined.a_string s || (is defined.an_int s || is defined.a_long s)
@@ -80,7 +84,7 @@ id_taken s = is defined.a_string s || (is defined.an_int s || is defined.a_long 
 -- a scalar type of this name takes the value; or it doesn't, and this is the error
 abbrev pub scalar_verdict : (name : ℕ) → Json → Verdict
 scalar_verdict name j =
-    cond (takes name j) verdict.Fits (verdict.Error (cond (eqb name 'Int && is_a defined.a_long j) error.IntOverflow error.LeafOfAnotherKind))
+    cond (takes name j) (Ok tt) (Err (cond (eqb name 'Int && is_a defined.a_long j) error.IntOverflow error.LeafOfAnotherKind))
 
 pub record JudgesScalar (name : ℕ) (sort : Sort) (r : Verdict) : Type 0 where
   pub tells : (j : Json) → said (sort_of j) ≡ sort → r ≡ scalar_verdict name j
@@ -114,8 +118,8 @@ pub record NamesObject (types : List ℕ) (name : ℕ) (r : Option ℕ) : Type 0
 
 -- a type that is told is an object type
 abbrev pub ObjectType : (types : List ℕ) → Typed → Type 0
-ObjectType types (typing.Type type) = object_kind (type_at types type).kind ≡ true
-ObjectType types (typing.Error e) = Unit {0}
+ObjectType types (Ok type) = object_kind (type_at types type).kind ≡ true
+ObjectType types (Err e) = Unit {0}
 
 -- an object of the type of this name, at a type of this kind
 pub record TypesAt (types members : List ℕ) (type : ℕ) (kind : TypeKind) (name : ℕ) (r : Typed) : Type 0 where

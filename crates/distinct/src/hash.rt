@@ -6,14 +6,14 @@ ghost use Rattle.distinct.specs.Hash.{word_at, mixed, hash_of};
 fn joined(a: u8, b: u8, c: u8, d: u8) -> u64
     ensures { (result ≡ a + 256 * b + 65536 * c + 16777216 * d) × (result < 2 ^ 32) }
 {
-    (a as u64) + 256 * (b as u64) + 65536 * (c as u64) + 16777216 * (d as u64)
+    u32::from_le_bytes([a, b, c, d]) as u64
 }
 
 // The byte at a place; 0 past the end.
 fn byte_at(bytes: &[u8], i: usize) -> u8
     ensures { result ≡ get_or bytes.now i 0 }
 {
-    if i < bytes.len() { bytes[i] } else { 0 }
+    bytes.get(i).copied().unwrap_or(0)
 }
 
 // The four bytes from a place on, where all are there.
@@ -40,13 +40,6 @@ fn word_at(bytes: &[u8], i: usize) -> u64
     )
 }
 
-// So many places before the end n, or the first one.
-fn before_end(n: usize, places: usize) -> usize
-    ensures { result ≡ n - places }
-{
-    if n < places { 0 } else { n - places }
-}
-
 // The factors are odd, and so small that the sum stays below 2^64.
 fn mix(hash: u64, one: u64, two: u64) -> u64
     requires { (hash < 2 ^ 32) × (one < 2 ^ 32) × (two < 2 ^ 32) }
@@ -60,12 +53,11 @@ pub fn hash_of(bytes: &[u8]) -> u16
 {
     let n = bytes.len();
     let mut hash = (n % 4294967296) as u64;
-    let mut i: usize = 0;
-    while i + 8 <= n {
+    for step in 0..n / 8 {
+        let i = 8 * step;
         hash = mix(hash, whole_word_at(bytes, i), whole_word_at(bytes, i + 4));
-        i += 8;
     }
-    let one = word_at(bytes, before_end(n, 8));
-    let two = word_at(bytes, before_end(n, 4));
+    let one = word_at(bytes, n.saturating_sub(8));
+    let two = word_at(bytes, n.saturating_sub(4));
     (mix(hash, one, two) / 256 % 65536) as u16
 }

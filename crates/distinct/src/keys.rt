@@ -8,10 +8,12 @@ ghost use Rattle.rules.specs.Json.{object_rows, other_key, node_keys_differ};
 ghost use Rattle.distinct.specs.Differ.{Since};
 ghost use Rattle.distinct.specs.Plain.{is_plain};
 
-use crate::texts::note_texts;
+use crate::texts::Texts;
 use rows::columns::{NODE_KEY_START, NODE_KIND, NODE_ONE, NODE_TWO};
 use rows::json::NODE_WIDTH;
 use rows::layout::{Range, cell, row_count};
+use rows::limits::MOST_NODES;
+use rules::json::OBJECT_NODE;
 use rules::keys::node_keys_differ;
 
 // The children of an object, and no rows of any other node, whose further columns need no look.
@@ -19,7 +21,7 @@ fn object_rows_at(nodes: &[u32], row: u32) -> Range
     ensures { result ≡ object_rows (node_at nodes.now row) }
 {
     let at = row as usize;
-    if cell(nodes, NODE_WIDTH, at, NODE_KIND) != 8 {
+    if cell(nodes, NODE_WIDTH, at, NODE_KIND) != OBJECT_NODE {
         return Range { first: 0, count: 0 };
     }
     Range {
@@ -80,12 +82,7 @@ fn all_keys_differ_since(pool: &[u8], nodes: &[u32], since: &[u16], known: usize
     ensures { result ≡ all (node_keys_differ pool.now nodes.now) (rows_of nodes.now node_width) }
 {
     let rows = row_count(nodes, NODE_WIDTH);
-    for row in 0..rows {
-        if !keys_differ_since(pool, nodes, since, known, row) {
-            return false;
-        }
-    }
-    true
+    (0..rows).all(|row| keys_differ_since(pool, nodes, since, known, row))
 }
 
 // As many keys are noted as objects have among them.
@@ -93,21 +90,9 @@ fn noted_keys_differ(pool: &[u8], nodes: &[u32], known: usize) -> bool
     requires { known ≤ 4096 }
     ensures { result ≡ all (node_keys_differ pool.now nodes.now) (rows_of nodes.now node_width) }
 {
-    let mut heads = [0u16; 2048];
-    let mut next = [0u16; 4096];
-    let mut hashes = [0u16; 4096];
-    let mut since = [0u16; 4097];
-    note_texts(
-        pool,
-        nodes,
-        NODE_WIDTH,
-        NODE_KEY_START,
-        &mut heads,
-        &mut next,
-        &mut hashes,
-        &mut since,
-        known,
-    );
+    let texts = Texts::<NODE_WIDTH, NODE_KEY_START>::new(pool, nodes);
+    let mut since = [0u16; MOST_NODES + 1];
+    texts.note_since::<MOST_NODES>(known, &mut since);
     all_keys_differ_since(pool, nodes, &since, known)
 }
 

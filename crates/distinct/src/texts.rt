@@ -2,15 +2,16 @@
 //
 // Rows whose hashes agree in eleven bits are in one chain. A chain's head is one more than its last row, a row's link one more than the row
 // before it in its chain, and 0 ends a chain. Bytes are compared only where sixteen bits of the hashes agree, and no pair twice.
-ghost use Rattle.std.specs.Prelude.{◌≡◌, ◌+◌, ◌≤◌, ◌<◌, ◌^◌, length};
-ghost use Rattle.rows.specs.Strings.{text_of, same};
-ghost use Rattle.distinct.specs.Differ.{AfterLast, Links, Cursor};
-ghost use Rattle.distinct.specs.Texts.{text_at, other_text, text_hash, text_chain, Hashed, Kept};
+ghost use Rattle.std.specs.Prelude.{◌≡◌, List, ℕ, ◌+◌, ◌≤◌, ◌<◌, ◌^◌, length, get_or};
+ghost use Rattle.distinct.specs.Differ.{Since, AfterLast, Links, Cursor};
+ghost use Rattle.distinct.specs.Texts.{text_at, texts_of, other_text, text_hash, text_chain, Hashed, Kept};
 
 use crate::hash::hash_of;
 use rows::layout::cell;
 use rows::strings::{Text, is_same, text_of};
+use std::marker::Model;
 
+#[tactic(auto, unfolding(crate::specs::Texts::text_at))]
 fn text_at(t: &[u32], width: usize, column: usize, row: usize) -> Text
     requires { (row < 2 ^ 40) × (width ≤ 16) × (column < 15) }
     ensures { result ≡ text_at t.now width column row }
@@ -21,131 +22,115 @@ fn text_at(t: &[u32], width: usize, column: usize, row: usize) -> Text
     }
 }
 
-fn hash_at(pool: &[u8], t: &[u32], width: usize, column: usize, row: usize) -> u16
-    requires { (row < 2 ^ 40) × (width ≤ 16) × (column < 15) }
-    ensures { result ≡ text_hash pool.now t.now width column row }
-{
-    hash_of(text_of(pool, text_at(t, width, column, row)))
+// A table's column of texts, with the pool where they stand. Contracts see the pool and the table.
+#[derive(Drop)]
+pub(crate) struct Texts<'a, const WIDTH: usize, const COLUMN: usize> {
+    pool: &'a [u8],
+    table: &'a [u32],
 }
 
-// The same bytes; a text that stands at one place need not be looked at.
-fn are_same(pool: &[u8], one: Text, two: Text) -> bool
-    ensures { result ≡ same (text_of pool.now one) (text_of pool.now two) }
-{
-    if one.start == two.start {
-        if one.len == two.len {
-            return true;
+impl<'a, const WIDTH: usize, const COLUMN: usize> Model for Texts<'a, WIDTH, COLUMN> {
+    ghost Value = { List ℕ × List ℕ };
+
+    ghost view = { λ texts. (texts.pool.now, texts.table.now) };
+
+    ghost invariant = { λ texts. (WIDTH ≤ 16) × (COLUMN < 15) };
+}
+
+impl<'a, const WIDTH: usize, const COLUMN: usize> Texts<'a, WIDTH, COLUMN> {
+    pub(crate) fn new(pool: &'a [u8], table: &'a [u32]) -> Self
+        requires { (WIDTH ≤ 16) × (COLUMN < 15) }
+        ensures { result ≡ (pool.now, table.now) }
+    {
+        Texts { pool, table }
+    }
+
+    #[tactic(auto, unfolding(crate::specs::Texts::text_hash))]
+    fn hash(&self, row: usize) -> u16
+        requires { row < 2 ^ 40 }
+        ensures { result ≡ text_hash (texts_of self.now WIDTH COLUMN) row }
+    {
+        hash_of(text_of(self.pool, text_at(self.table, WIDTH, COLUMN, row)))
+    }
+
+    // A text that stands at one place for both need not be looked at.
+    fn is_other(&self, one: usize, two: usize) -> bool
+        requires { (one < 2 ^ 40) × (two < 2 ^ 40) }
+        ensures { result ≡ other_text (texts_of self.now WIDTH COLUMN) one two }
+    {
+        let a = text_at(self.table, WIDTH, COLUMN, one);
+        let b = text_at(self.table, WIDTH, COLUMN, two);
+        (a != b) && !is_same(text_of(self.pool, a), text_of(self.pool, b))
+    }
+
+    // Texts with different hashes differ, so their bytes need no look.
+    fn is_other_by_hash(&self, hashes: &[u16], one: usize, two: usize) -> bool
+        requires row_bound { (one < 4096) × (two ≤ one) × (one < length hashes.now) }
+        requires hashed { Hashed (texts_of self.now WIDTH COLUMN) (one + 1) hashes.now }
+        ensures { result ≡ other_text (texts_of self.now WIDTH COLUMN) one two }
+    {
+        (hashes[one] != hashes[two]) || self.is_other(one, two)
+    }
+
+    // The row after the last one from `from` on and before `row` that has the text of `row`; `from` where none has it. `head` is the chain's.
+    fn after_last_same(
+        &self,
+        next: &[u16],
+        hashes: &[u16],
+        head: usize,
+        from: usize,
+        row: usize,
+    ) -> usize
+        requires row_bound { (row < 4096) × (row < length hashes.now) × (row < length next.now) × (from ≤ row) }
+        requires hashed { Hashed (texts_of self.now WIDTH COLUMN) (row + 1) hashes.now }
+        requires links { Links (text_chain (texts_of self.now WIDTH COLUMN)) row next.now }
+        requires cursor { Cursor (other_text (texts_of self.now WIDTH COLUMN)) (text_chain (texts_of self.now WIDTH COLUMN)) row head }
+        ensures { AfterLast (other_text (texts_of self.now WIDTH COLUMN) row) from row result }
+    {
+        let mut cursor = head;
+        while from < cursor {
+            if !self.is_other_by_hash(hashes, row, cursor - 1) {
+                return cursor;
+            }
+            cursor = next[cursor - 1] as usize;
         }
+        from
     }
-    is_same(text_of(pool, one), text_of(pool, two))
-}
 
-// Texts with different hashes differ, so their bytes need no look.
-fn is_other(
-    pool: &[u8],
-    t: &[u32],
-    width: usize,
-    column: usize,
-    hashes: &[u16],
-    one: usize,
-    two: usize,
-) -> bool
-    requires width_bound { (width ≤ 16) × (column < 15) × (one < 4096) × (two ≤ one) × (one < length hashes.now) }
-    requires hashed { Hashed pool.now t.now width column (one + 1) hashes.now }
-    ensures { result ≡ other_text pool.now t.now width column one two }
-{
-    if hashes[one] != hashes[two] {
-        return true;
-    }
-    !are_same(
-        pool,
-        text_at(t, width, column, one),
-        text_at(t, width, column, two),
+    // Notes one row more: its hash, its link, the head of its chain, and since when the texts up to it differ.
+    fn note_row(
+        &self,
+        heads: &mut [u16],
+        next: &mut [u16],
+        hashes: &mut [u16],
+        since: &mut [u16],
+        row: usize,
     )
-}
-
-// The row after the last one from `from` on and before `row` that has the text of `row`; `from` where none has it. `head` is the chain's.
-fn after_last_same(
-    pool: &[u8],
-    t: &[u32],
-    width: usize,
-    column: usize,
-    next: &[u16],
-    hashes: &[u16],
-    head: usize,
-    from: usize,
-    row: usize,
-) -> usize
-    requires width_bound { (width ≤ 16) × (column < 15) × (row < 4096) × (row < length hashes.now) × (row < length next.now) × (from ≤ row) }
-    requires hashed { Hashed pool.now t.now width column (row + 1) hashes.now }
-    requires links { Links (text_chain pool.now t.now width column) row next.now }
-    requires cursor { Cursor (other_text pool.now t.now width column) (text_chain pool.now t.now width column) row head }
-    ensures { AfterLast (other_text pool.now t.now width column row) from row result }
-{
-    let mut cursor = head;
-    while from < cursor {
-        if !is_other(pool, t, width, column, hashes, row, cursor - 1) {
-            return cursor;
-        }
-        cursor = next[cursor - 1] as usize;
+        requires row_bound { (row < 4096) × (row < length next.old) }
+        requires kept { Kept (texts_of self.now WIDTH COLUMN) row heads.old next.old hashes.old since.old }
+        ensures { Kept (texts_of self.now WIDTH COLUMN) (row + 1) heads.new next.new hashes.new since.new }
+    {
+        let hash = self.hash(row);
+        let chain = (hash % 2048) as usize;
+        let head = heads[chain];
+        let from = since[row] as usize;
+        hashes[row] = hash;
+        let after = self.after_last_same(next, hashes, head as usize, from, row);
+        heads[chain] = (row + 1) as u16;
+        next[row] = head;
+        since[row + 1] = after as u16;
     }
-    from
-}
 
-// Notes one row more: its hash, its link, the head of its chain, and since when the texts up to it differ.
-fn note_text(
-    pool: &[u8],
-    t: &[u32],
-    width: usize,
-    column: usize,
-    heads: &mut [u16],
-    next: &mut [u16],
-    hashes: &mut [u16],
-    since: &mut [u16],
-    row: usize,
-)
-    requires width_bound { (width ≤ 16) × (column < 15) × (row < 4096) × (row < length next.old) }
-    requires kept { Kept pool.now t.now width column row heads.old next.old hashes.old since.old }
-    ensures { Kept pool.now t.now width column (row + 1) heads.new next.new hashes.new since.new }
-{
-    let hash = hash_at(pool, t, width, column, row);
-    let chain = (hash % 2048) as usize;
-    let head = heads[chain];
-    let from = since[row] as usize;
-    hashes[row] = hash;
-    let after = after_last_same(
-        pool,
-        t,
-        width,
-        column,
-        next,
-        hashes,
-        head as usize,
-        from,
-        row,
-    );
-    heads[chain] = (row + 1) as u16;
-    next[row] = head;
-    since[row + 1] = after as u16;
-}
-
-// Notes the first `count` rows.
-pub(crate) fn note_texts(
-    pool: &[u8],
-    t: &[u32],
-    width: usize,
-    column: usize,
-    heads: &mut [u16],
-    next: &mut [u16],
-    hashes: &mut [u16],
-    since: &mut [u16],
-    count: usize,
-)
-    requires width_bound { (width ≤ 16) × (column < 15) × (count ≤ 4096) × (count ≤ length next.old) }
-    requires kept { Kept pool.now t.now width column 0 heads.old next.old hashes.old since.old }
-    ensures { Kept pool.now t.now width column count heads.new next.new hashes.new since.new }
-{
-    for row in 0..count {
-        note_text(pool, t, width, column, heads, next, hashes, since, row);
+    // Notes for each end up to `count` since when the texts differ up to there. There is room for as many rows as ROWS.
+    pub(crate) fn note_since<const ROWS: usize>(&self, count: usize, since: &mut [u16])
+        requires { (count ≤ ROWS) × (ROWS ≤ 4096) × (length since.old ≡ ROWS + 1) × (get_or since.old 0 0 ≡ 0) }
+        ensures { (length since.new ≡ ROWS + 1) × Since (other_text (texts_of self.now WIDTH COLUMN)) count since.new }
+    {
+        let mut heads = [0u16; 2048];
+        let mut next = [0u16; ROWS];
+        let mut hashes = [0u16; ROWS];
+        for row in 0..count {
+            self.note_row(&mut heads, &mut next, &mut hashes, since, row);
+        }
     }
 }

@@ -1,5 +1,5 @@
 -- The items of a list and the fields of an input object: an opened container is made of its parts, one after another. Assumes nothing.
-use mathlib.Core.Path.{◌≡◌, refl}
+use mathlib.Core.Path.{◌≡◌, refl, sym, ◌∙◌}
 use mathlib.Core.List.{List, [], ◌∷◌, ◌++◌, map, append_assoc}
 use Rattle.std.specs.Prelude.{Option, Some, None}
 use Prim.Native.Nat.{ℕ, zero, suc, ◌+◌, ◌-◌, ◌≤◌, ◌<◌}
@@ -21,10 +21,7 @@ use Rattle.graphql.specs.Lookup.{rows_from, rows_in, non_null}
 use Rattle.graphql.specs.Values.{opened, part_by_part}
 use Rattle.graphql.specs.Coerce.{coerce_items, input_field, input_fields, coerce_argument_value}
 use Rattle.input_coercion.specs.Coerced.{given_for, inside}
-use Rattle.input_coercion.proofs.Leaves.{not_found, is_found_lem}
-use Rattle.values.specs.declared.node.Put.{Put}
-use Rattle.values.specs.declared.node.Put.TheVariants.{At, TooFar}
-use Rattle.echoing.specs.Echo.{Shows, Echoes, EchoesFields, field_size, field_label, field_text, field_out, of_part, of_value, of_items, of_field, of_fields}
+use Rattle.echoing.specs.Echo.{Put, Shows, Echoes, EchoesFields, field_size, field_label, field_text, field_out, of_part, of_value, of_items, of_field, of_fields}
 use Rattle.echoing.proofs.Comes.{made, comes_pure, comes_halt, not_failed}
 use Rattle.echoing.proofs.Leaves.{never}
 use Rattle.echoing.proofs.Loop.{largest, outs, behind, Going, going_begin, going_again, container_stopped, container_ended}
@@ -91,7 +88,7 @@ module _ (pool names refs types fields nodes literals variables : List ℕ) wher
         go (suc n) h = let e : suc n - 1 ≡ n = omega arith in rw e
 
     pub items_full : (rows : List ℕ) {text : List ℕ} {at : ℕ} → room ≡ 0
-        → Echoes room (of_items pool names refs types fields nodes literals variables room inner rows) text at TooFar text
+        → Echoes room (of_items pool names refs types fields nodes literals variables room inner rows) text at None text
     unfolding of_items coerce_items opened
     items_full rows {text} {at} z = rw z (never containers print 0 _ text at (λ p j q. comes_halt too_far q))
 
@@ -109,11 +106,11 @@ module _ (pool names refs types fields nodes literals variables : List ℕ) wher
         unfolding item_out
         item_shown = behind w q
 
-        pub items_again : {end : ℕ} → r ≡ At end → GoingItems rows.first rows.count text₀ at text2 end (i + 1)
+        pub items_again : {end : ℕ} → r ≡ Some end → GoingItems rows.first rows.count text₀ at text2 end (i + 1)
         items_again e = going_again containers item_out (room - 1) item rows.first rows.count text₀ at g l item_shown e
 
-        pub items_stopped : (room ≡ 0 → ⊥) → r ≡ TooFar
-            → Echoes room (of_items pool names refs types fields nodes literals variables room inner (rows_in rows)) text₀ at TooFar text2
+        pub items_stopped : (room ≡ 0 → ⊥) → r ≡ None
+            → Echoes room (of_items pool names refs types fields nodes literals variables room inner (rows_in rows)) text₀ at None text2
         unfolding rows_in containers print
         items_stopped z e =
             container_stopped containers item_out room item rows.first rows.count text₀ at z 91 93 (λ js. array (items js))
@@ -122,7 +119,7 @@ module _ (pool names refs types fields nodes literals variables : List ℕ) wher
 
       pub items_ended : {text text2 : List ℕ} {next i end : ℕ} → GoingItems rows.first rows.count text₀ at text next i → (room ≡ 0 → ⊥)
           → rows.count ≤ i → Closes 91 93 text at next text2 end
-          → Echoes room (of_items pool names refs types fields nodes literals variables room inner (rows_in rows)) text₀ at (At end) text2
+          → Echoes room (of_items pool names refs types fields nodes literals variables room inner (rows_in rows)) text₀ at (Some end) text2
       unfolding rows_in containers print
       items_ended g z l c =
           container_ended containers item_out room item rows.first rows.count text₀ at z 91 93 (λ js. array (items js))
@@ -145,7 +142,7 @@ module _ (pool names refs types fields nodes literals variables : List ℕ) wher
             long = o.long;
             shown = λ k v c.
                 let n = made (coerce_argument_value pool names refs types fields nodes literals variables room k.1 def.ty literal) Some v
-                (rw (is_found_lem (given_for fields literals given field) e h, ← d) at c) in
+                (rw (sym e ∙ h, ← d) at c) in
                 rw (← n.is) (o.shown k.1 n.value n.first);
           }
 
@@ -161,19 +158,19 @@ module _ (pool names refs types fields nodes literals variables : List ℕ) wher
             long = o.long;
             shown = λ k v c.
                 let n = made (part_by_part pool names literals room default) Some v
-                (rw (not_found (given_for fields literals given field) e h, ← d, u, s) at c) in
+                (rw (sym e ∙ h, ← d, u, s) at c) in
                 rw (← n.is) (o.shown k.1 n.value n.first);
           }
 
     pub field_absent : found ≡ None → def.default ≡ None
         → Shows field_size (field_out pool names fields field) room (of_field pool names refs types fields nodes literals variables room given field)
-        text at (At at) text
+        text at (Some at) text
     unfolding of_field input_field field_out field_text field_size
     field_absent h u = record {
       long = refl;
       shown = λ k v c.
           let n = comes_pure (not_failed (non_null refs (field_at fields field).ty) literals error.MissingInputField k.0 k.1 (pure None)
-          (rw u at (rw (not_found (given_for fields literals given field) e h, ← d) at c))) in
+          (rw u at (rw (sym e ∙ h, ← d) at c))) in
           rw (← n) (record { fits = λ l. record { end = at; is = refl; writes = stay text at }; full = λ l. absurd (omega arith) });
     }
 
@@ -196,7 +193,7 @@ module _ (pool names refs types fields nodes literals variables : List ℕ) wher
         go (suc n) h = let e : suc n - 1 ≡ n = omega arith in rw e
 
     pub fields_full : (declared : List ℕ) {text : List ℕ} {at : ℕ} → room ≡ 0
-        → EchoesFields pool names refs types fields nodes literals variables room given declared text at TooFar text
+        → EchoesFields pool names refs types fields nodes literals variables room given declared text at None text
     unfolding of_fields input_fields opened
     fields_full declared {text} {at} z = rw z (never containers print 0 _ text at (λ p j q. comes_halt too_far q))
 
@@ -211,11 +208,11 @@ module _ (pool names refs types fields nodes literals variables : List ℕ) wher
       module _ {text text2 : List ℕ} {next i : ℕ} {r : Put} (g : GoingFields declared.first declared.count text₀ at text next i)
           (l : i < declared.count)
           (q : Shows field_size (field_out pool names fields (declared.first + i)) (room - 1) (part (declared.first + i)) text next r text2) where
-        pub fields_again : {end : ℕ} → r ≡ At end → GoingFields declared.first declared.count text₀ at text2 end (i + 1)
+        pub fields_again : {end : ℕ} → r ≡ Some end → GoingFields declared.first declared.count text₀ at text2 end (i + 1)
         fields_again e = going_again field_size (field_out pool names fields) (room - 1) part declared.first declared.count text₀ at g l q e
 
-        pub fields_stopped : (room ≡ 0 → ⊥) → r ≡ TooFar
-            → EchoesFields pool names refs types fields nodes literals variables room given (rows_in declared) text₀ at TooFar text2
+        pub fields_stopped : (room ≡ 0 → ⊥) → r ≡ None
+            → EchoesFields pool names refs types fields nodes literals variables room given (rows_in declared) text₀ at None text2
         unfolding rows_in containers print
         fields_stopped z e =
             container_stopped field_size (field_out pool names fields) room part declared.first declared.count text₀ at z 123 125
@@ -226,7 +223,7 @@ module _ (pool names refs types fields nodes literals variables : List ℕ) wher
 
       pub fields_ended : {text text2 : List ℕ} {next i end : ℕ} → GoingFields declared.first declared.count text₀ at text next i
           → (room ≡ 0 → ⊥) → declared.count ≤ i → Closes 123 125 text at next text2 end
-          → EchoesFields pool names refs types fields nodes literals variables room given (rows_in declared) text₀ at (At end) text2
+          → EchoesFields pool names refs types fields nodes literals variables room given (rows_in declared) text₀ at (Some end) text2
       unfolding rows_in containers print
       fields_ended g z l c =
           container_ended field_size (field_out pool names fields) room part declared.first declared.count text₀ at z 123 125

@@ -3,6 +3,7 @@
 use mathlib.Core.Path.{◌≡◌, refl, sym, ◌∙◌}
 use mathlib.Core.Bool.{Bool, true, false, cond}
 use mathlib.Core.List.{List, [], ◌∷◌, ◌++◌, append_assoc, append-nil}
+use Rattle.std.specs.Prelude.{Some, None}
 use Prim.Native.Nat.{ℕ, suc, ◌+◌, ◌-◌, ◌≤◌, ◌<◌, max}
 use native.Mathlib.Nat.{add-zero, sub-zero}
 use native.Mathlib.Decide.{dec_le}
@@ -14,10 +15,8 @@ use Rattle.writing.proofs.WritesLaws.{length_written, stay, «then», same}
 use Rattle.graphql.specs.Run.{M, pure, in_order, ◌>>=◌}
 use Rattle.graphql.specs.Json.{Json, print, containers}
 use Rattle.graphql.specs.Lookup.{rows_from}
-use Rattle.values.specs.declared.node.Put.{Put}
-use Rattle.values.specs.declared.node.Put.TheVariants.{At, TooFar}
 use Rattle.values.proofs.Closing.{closes_exactly}
-use Rattle.echoing.specs.Echo.{Comes, Shown, Shows}
+use Rattle.echoing.specs.Echo.{Put, Comes, Shown, Shows}
 use Rattle.echoing.proofs.Comes.{Made, made, More, comes_none, comes_more, comes_long}
 
 unfoldable pub largest : {A : Type 0} → (size : A → ℕ) → List A → ℕ
@@ -97,7 +96,7 @@ module _ {K A : Type 0} (size : A → ℕ) (out : ℕ → A → List ℕ) (room 
     part : (k : K) (vs : List A) → Parts k rows vs → (o : Gone k vs text next i) → More (λ row. run row k) (first + i) (rest (i + 1)) o.left
     part k vs q o = comes_more (λ row. run row k) (first + i) (rest (i + 1)) (rw (next_part l) at o.others)
 
-    pub going_again : {end : ℕ} → r ≡ At end → Going text2 end (i + 1)
+    pub going_again : {end : ℕ} → r ≡ Some end → Going text2 end (i + 1)
     unfolding largest outs
     going_again {end} h = record {
       below = omega arith;
@@ -134,7 +133,7 @@ module _ {K A : Type 0} (size : A → ℕ) (out : ℕ → A → List ℕ) (room 
     part_long = w.long ∙ g.long
 
     -- a part that was too far opens more containers than there is room for
-    pub part_stops : r ≡ TooFar → (k : K) (vs : List A) → Parts k rows vs → room < largest size vs
+    pub part_stops : r ≡ None → (k : K) (vs : List A) → Parts k rows vs → room < largest size vs
     unfolding largest
     part_stops h k vs q =
         let o = g.gone k vs q in
@@ -184,7 +183,7 @@ module _ {K A : Type 0} (size : A → ℕ) (out : ℕ → A → List ℕ) (room 
 
   module _ {text : List ℕ} {next i : ℕ} (g : Going size out (room - 1) run first count text₀ at text next i) where
     pub container_stopped : {text2 : List ℕ} {r : Put} → i < count → Shows size (out (first + i)) (room - 1) (run (first + i)) text next r text2
-        → r ≡ TooFar → Shows containers print room m text₀ at TooFar text2
+        → r ≡ None → Shows containers print room m text₀ at None text2
     container_stopped l w h = record {
       long = part_long size out (room - 1) run first count text₀ at g l w;
       shown = λ k j q.
@@ -195,7 +194,7 @@ module _ {K A : Type 0} (size : A → ℕ) (out : ℕ → A → List ℕ) (room 
     }
 
     pub container_ended : {text2 : List ℕ} {end : ℕ} → count ≤ i → Closes left right text at next text2 end
-        → Shows containers print room m text₀ at (At end) text2
+        → Shows containers print room m text₀ at (Some end) text2
     container_ended {text2} {end} l c = record {
       long = closes_long c ∙ g.long;
       shown = λ k j q.

@@ -2,7 +2,7 @@
 use mathlib.Core.Path.{◌≡◌, refl, sym, ap, ◌∙◌}
 use mathlib.Core.Bool.{Bool, true, false, cond}
 use mathlib.Core.List.{List, [], ◌∷◌, ◌++◌}
-use Rattle.std.specs.Prelude.{Option, Some, None}
+use Rattle.std.specs.Prelude.{Option, Some, None, MatchOption, IsSomeAnd}
 use Prim.Native.Nat.{ℕ, zero, suc, ◌+◌, ◌≤◌, ◌<◌}
 use native.Mathlib.Omega.{arith}
 use borrow.Author.Tests.{eq-eqb, ne_eqb, eqb-true, eqb-false}
@@ -29,7 +29,6 @@ use Rattle.input_coercion.specs.Coerced.{form_meant, FormAt, given_named}
 use Rattle.input_coercion.specs.declared.check.Form.{Form}
 use Rattle.input_coercion.specs.declared.check.Form.TheVariants as form
 use Rattle.input_coercion.specs.contracts.check.Form.{the_type as form_type}
-use Rattle.input_coercion.proofs.Leaves.{not_found, is_found_lem}
 use Rattle.echoing.specs.Echo.{Comes}
 use Rattle.echoing.specs.Source.{ArgumentsDiffer, definition_named, default_source, variable_source, Found, Stands, SourceOf}
 use Rattle.echoing.specs.declared.echo.Source.{Source}
@@ -263,10 +262,10 @@ module _ (arguments given literals variables : List ℕ) (definitions written : 
     the_own d row e = whole labels name each passes _ definitions.first definitions.count args q refl (λ a rest. refl) row d.differ e
 
   module _ {found : Option ℕ} (e : found ≡ (definition_named arguments name (rows_in definitions))) where
-    pub source_unknown : found ≡ None → SourceOf arguments given literals variables definitions written name source.Absent
+    pub source_unknown : found ≡ None → SourceOf arguments given literals variables definitions written name None
     source_unknown h = record {
       stands = λ pool names refs types fields nodes p args q.
-          nothing_named pool names refs types fields nodes p args q (not_found (definition_named arguments name (rows_in definitions)) e h);
+          nothing_named pool names refs types fields nodes p args q (sym e ∙ h);
     }
 
     module _ (d : ArgumentsDiffer arguments definitions) {row : ℕ} (h : found ≡ Some row) where
@@ -274,11 +273,11 @@ module _ (arguments given literals variables : List ℕ) (definitions written : 
           (q : Comes (coerce_argument_values pool names refs types fields nodes literals variables arguments given p definitions written) args)
           → Whole labels name (each pool names refs types fields nodes p args q) row args
       own_of pool names refs types fields nodes p args q =
-          the_own pool names refs types fields nodes p args q d row (is_found_lem (definition_named arguments name (rows_in definitions)) e h)
+          the_own pool names refs types fields nodes p args q d row (sym e ∙ h)
 
     module _ (d : ArgumentsDiffer arguments definitions) {row : ℕ} {argument : Argument} {there : Option ℕ} (h : found ≡ Some row)
         (a : argument ≡ argument_at arguments row) (g : there ≡ (given_named given name (rows_in written))) where
-      pub source_default : {r : Source} → there ≡ None → r ≡ default_source argument.default
+      pub source_default : {r : Option Source} → there ≡ None → r ≡ default_source argument.default
           → SourceOf arguments given literals variables definitions written name r
       unfolding coerce_argument
       source_default n k = record {
@@ -287,11 +286,11 @@ module _ (arguments given literals variables : List ℕ) (definitions written : 
             rw (c.is, k, a)
             (default_stands pool names refs types fields nodes literals variables arguments given p row c.own name c.labelled
             (argument_at arguments row).default
-            (rw (c.labelled, not_found (given_named given name (rows_in written)) g n) at c.here));
+            (rw (c.labelled, sym g ∙ n) at c.here));
       }
 
       module _ {at : ℕ} {value : Given} {f : Form} (n : there ≡ Some at) (v : value ≡ given_at given at) (l : FormAt literals value.literal f) where
-        pub source_variable : {r : Source} {x : ℕ} → f ≡ form.Variable x
+        pub source_variable : {r : Option Source} {x : ℕ} → f ≡ form.Variable x
             → r ≡ variable_source variables argument.default (variable_named variables x)
             → SourceOf arguments given literals variables definitions written name r
         unfolding coerce_argument given_argument
@@ -301,11 +300,11 @@ module _ (arguments given literals variables : List ℕ) (definitions written : 
               rw (c.is, k, a)
               (variable_stands pool names refs types fields nodes literals variables arguments given p row c.own name c.labelled
               (variable_named variables x)
-              (rw (c.labelled, is_found_lem (given_named given name (rows_in written)) g n, ← v, l.is, i) at c.here));
+              (rw (c.labelled, sym g ∙ n, ← v, l.is, i) at c.here));
         }
 
         pub source_literal : Among (0 ∷ 2 ∷ []) (tag_of form_type f)
-            → SourceOf arguments given literals variables definitions written name (source.Literal argument.ty value.literal)
+            → SourceOf arguments given literals variables definitions written name (Some (source.Literal argument.ty value.literal))
         unfolding coerce_argument given_argument literal_argument
         source_literal o = record {
           stands = λ pool names refs types fields nodes p args q.
@@ -316,7 +315,7 @@ module _ (arguments given literals variables : List ℕ) (definitions written : 
                     (coerce_argument_value pool names refs types fields nodes literals variables most_open p (argument_at arguments row).ty
                     value.literal)
                     (go pool names refs types fields nodes p c.own f o
-                    (rw (c.labelled, is_found_lem (given_named given name (rows_in written)) g n, ← v, l.is) at c.here));
+                    (rw (c.labelled, sym g ∙ n, ← v, l.is) at c.here));
                 shaped = λ x i. no_variable f o x (rw l.is at i);
               });
         }
@@ -333,21 +332,20 @@ pub ruleset sourcing = (source_unknown, source_default, source_variable, source_
 
 -- ---- the small ones
 
-pub default_none : (o : Option ℕ) → o ≡ None → source.Absent ≡ default_source o
+pub default_mapped : (o : Option ℕ) (r : Option Source) → MatchOption o (r ≡ None) (λ row. IsSomeAnd r (λ s. s ≡ source.Default row))
+    → r ≡ default_source o
 unfolding default_source
-default_none o h = rw h
-
-pub default_some : (o : Option ℕ) {row : ℕ} → o ≡ Some row → source.Default row ≡ default_source o
-unfolding default_source
-default_some o h = rw h
+default_mapped None r e = e
+default_mapped (Some row) None e = absurd e
+default_mapped (Some row) (Some s) e = rw e
 
 module _ (variables : List ℕ) (default : Option ℕ) (name : ℕ) {found : Option ℕ} (e : found ≡ (variable_named variables name)) where
-  pub variable_default : {r : Source} → found ≡ None → r ≡ default_source default
+  pub variable_default : {r : Option Source} → found ≡ None → r ≡ default_source default
       → r ≡ variable_source variables default (variable_named variables name)
   unfolding variable_source
-  variable_default h k = rw (not_found (variable_named variables name) e h, k)
+  variable_default h k = rw (sym e ∙ h, k)
 
   pub variable_node : {v : ℕ} {value : VariableValue} → found ≡ Some v → value ≡ variable_at variables v
-      → source.Node value.node ≡ variable_source variables default (variable_named variables name)
+      → Some (source.Node value.node) ≡ variable_source variables default (variable_named variables name)
   unfolding variable_source
-  variable_node h k = rw (is_found_lem (variable_named variables name) e h, k)
+  variable_node h k = rw (sym e ∙ h, k)

@@ -1,5 +1,5 @@
 -- A literal at a type, way by way: what a function knows where it returns is what the definition says there. Assumes nothing.
-use mathlib.Core.Path.{◌≡◌, refl}
+use mathlib.Core.Path.{◌≡◌, refl, sym, ◌∙◌}
 use mathlib.Core.Bool.{Bool}
 use mathlib.Core.List.{List, [], ◌∷◌}
 use Rattle.std.specs.Prelude.{Option, Some, None}
@@ -29,12 +29,9 @@ use Rattle.input_coercion.specs.declared.check.Shape.TheVariants as shape
 use Rattle.input_coercion.specs.declared.check.Form.{Form}
 use Rattle.input_coercion.specs.declared.check.Form.TheVariants as form
 use Rattle.input_coercion.specs.contracts.check.Shape.{the_type as shape_type}
-use Rattle.input_coercion.proofs.Leaves.{not_found, is_found_lem}
 use Rattle.input_coercion.proofs.Walk.{form_shaped, listable, keyed_within, few_declared, other_kinds, other_kind}
 use Rattle.values.specs.Literals.{LiteralsParted}
-use Rattle.values.specs.declared.node.Put.{Put}
-use Rattle.values.specs.declared.node.Put.TheVariants.{At, TooFar}
-use Rattle.echoing.specs.Echo.{Comes, Echoes, EchoesVariable, EchoesFields, of_part, of_value, of_variable, of_items, of_named, of_shape, of_fields}
+use Rattle.echoing.specs.Echo.{Put, Comes, Echoes, EchoesVariable, EchoesFields, of_part, of_value, of_variable, of_items, of_named, of_shape, of_fields}
 use Rattle.echoing.proofs.Comes.{comes_pure, comes_failed, not_failed}
 use Rattle.echoing.proofs.Leaves.{never, null_shown}
 use Rattle.echoing.proofs.Fields.{items_full, items_begin, items_again, items_stopped, items_ended, field_given, field_default_lem, field_absent, fields_full, fields_begin, fields_again, fields_stopped, fields_ended}
@@ -63,15 +60,15 @@ module _ (pool names refs types fields nodes literals variables : List ℕ) (roo
       → Comes (of_named pool names refs types fields nodes literals variables room row s name p) j
       → Comes (input_object pool names refs types fields nodes literals variables room (deeper p) p type row (shape_meant s)) j
   unfolding of_named coerce_named when is_input_object
-  as_object row s name type e h d k p j q = rw (is_found_lem (type_named types name) e h, ← d, k) at q
+  as_object row s name type e h d k p j q = rw (sym e ∙ h, ← d, k) at q
 
   module _ (row : ℕ) (s : Shape) (name : ℕ) {found : Option ℕ} (e : found ≡ (type_named types name)) {text : List ℕ} {at : ℕ} where
     pub named_undefined : found ≡ None
-        → Echoes room (of_named pool names refs types fields nodes literals variables room row s name) text at TooFar text
+        → Echoes room (of_named pool names refs types fields nodes literals variables room row s name) text at None text
     unfolding of_named coerce_named
     named_undefined h =
         never containers print room _ text at
-        (λ p j q. comes_failed literals error.UndefinedInputType row p (rw (not_found (type_named types name) e h) at q))
+        (λ p j q. comes_failed literals error.UndefinedInputType row p (rw (sym e ∙ h) at q))
 
     module _ {type : ℕ} {def : TypeDef} (h : found ≡ Some type) (d : def ≡ type_at types type) where
       pub named_other : {r : Put} {text' : List ℕ} → Among other_kinds (tag_of kind_type def.kind)
@@ -80,11 +77,11 @@ module _ (pool names refs types fields nodes literals variables : List ℕ) (roo
       unfolding of_named coerce_named when of_part
       named_other o w = record {
         long = w.long;
-        shown = λ p j q. w.shown p j (rw (is_found_lem (type_named types name) e h, ← d, other_kind def.kind o) at q);
+        shown = λ p j q. w.shown p j (rw (sym e ∙ h, ← d, other_kind def.kind o) at q);
       }
 
       pub named_unkeyed : def.kind ≡ kind.InputObject → Among unkeyed (tag_of shape_type s)
-          → Echoes room (of_named pool names refs types fields nodes literals variables room row s name) text at TooFar text
+          → Echoes room (of_named pool names refs types fields nodes literals variables room row s name) text at None text
       unfolding input_object
       named_unkeyed k o = never containers print room _ text at (λ p j q. go s o p j (as_object row s name type e h d k p j q))
         where
@@ -126,7 +123,7 @@ module _ (pool names refs types fields nodes literals variables : List ℕ) (roo
     shape_items h i w = record { long = w.long; shown = λ p j q. w.shown p j (rw (← e, h, ← i.are) at q) }
 
   pub shape_unknown : (ty row : ℕ) (s : Shape) {t : TypeRef} {text : List ℕ} {at : ℕ} → t ≡ type_ref_at refs ty → t ≡ ref.Unknown
-      → Echoes room (of_shape pool names refs types fields nodes literals variables room ty row s) text at TooFar text
+      → Echoes room (of_shape pool names refs types fields nodes literals variables room ty row s) text at None text
   unfolding of_shape coerce_shape
   shape_unknown ty row s {text = text} {at = at} e h =
       never containers print room _ text at (λ p j q. comes_failed literals error.UndefinedInputType row p (rw (← e, h) at q))
@@ -147,7 +144,7 @@ module _ (pool names refs types fields nodes literals variables : List ℕ) (roo
 
   module _ (ty row : ℕ) {f : Form} (e : FormAt literals row f) {text text' : List ℕ} {at : ℕ} where
     pub value_null : {end : ℕ} → f ≡ form.Null → Writes text text' at end null_name
-        → Echoes room (of_value pool names refs types fields nodes literals variables room ty row) text at (At end) text'
+        → Echoes room (of_value pool names refs types fields nodes literals variables room ty row) text at (Some end) text'
     unfolding coerce_literal
     value_null h w = record {
       long = w.wrote.long;

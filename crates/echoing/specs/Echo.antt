@@ -13,8 +13,6 @@ use Rattle.graphql.specs.Values.{part_by_part}
 use Rattle.graphql.specs.Coerce.{coerce_variable, coerce_items, input_field, input_fields, coerce_named, coerce_shape, coerce_argument_value}
 use Rattle.input_coercion.specs.Coerced.{shape_meant, given_for, inside}
 use Rattle.input_coercion.specs.declared.check.Shape.{Shape}
-use Rattle.values.specs.declared.node.Put.{Put}
-use Rattle.values.specs.declared.node.Put.TheVariants.{At, TooFar}
 
 -- ---- A text that was written, if there was room
 
@@ -25,16 +23,20 @@ pub record Comes {A : Type 0} (m : M A) (v : A) : Type 0 where
   pub to : Choices
   pub is : m from ≡ done v log to
 
+-- the position after what was written; none where it was too far, or where there was no value
+abbrev pub Put : Type 0
+Put = Option ℕ
+
 -- the text was written from `at` on, and the position is the one after it
 pub record PutsOut (out : List ℕ) (before : List ℕ) (at : ℕ) (r : Put) (after : List ℕ) : Type 0 where
   pub end : ℕ
-  pub is : r ≡ At end
+  pub is : r ≡ Some end
   pub writes : Writes before after at end out
 
 -- that, where there is room for what opens so many containers; else it was too far
 pub record Shown (room size : ℕ) (out : List ℕ) (before : List ℕ) (at : ℕ) (r : Put) (after : List ℕ) : Type 0 where
   pub fits : size ≤ room → PutsOut out before at r after
-  pub full : room < size → r ≡ TooFar
+  pub full : room < size → r ≡ None
 
 -- What a call came to that was to write the value of `m`, if it comes to one. `K` is what the value does not hang on: the path, and where an error
 -- would stand.

@@ -25,13 +25,13 @@ pub record ArgumentsDiffer (arguments : List ℕ) (definitions : Range) : Type 0
 unfoldable pub definition_named : (arguments : List ℕ) → (name : ℕ) → List ℕ → Option ℕ
 definition_named arguments name rows = find (λ row. eqb (argument_at arguments row).name name) rows
 
-unfoldable pub default_source : Option ℕ → Source
-default_source None = source.Absent
-default_source (Some row) = source.Default row
+unfoldable pub default_source : Option ℕ → Option Source
+default_source None = None
+default_source (Some row) = Some (source.Default row)
 
-unfoldable pub variable_source : (variables : List ℕ) → Option ℕ → Option ℕ → Source
+unfoldable pub variable_source : (variables : List ℕ) → Option ℕ → Option ℕ → Option Source
 variable_source variables default None = default_source default
-variable_source variables default (Some v) = source.Node (variable_at variables v).node
+variable_source variables default (Some v) = Some (source.Node (variable_at variables v).node)
 
 -- there is a value, and the run comes to it
 pub record Found (m : M Json) (found : Option Json) : Type 0 where
@@ -46,15 +46,15 @@ pub record Given (literals : List ℕ) (row : ℕ) (m : M Json) (o : Option Json
 
 module _ (pool names refs types fields nodes literals variables : List ℕ) (p : Path) where
   -- what was found is the value of the source; where there is none, nothing was
-  abbrev pub Stands : Source → Option Json → Type 0
-  Stands source.Absent found = found ≡ None
-  Stands (source.Node row) found = Found (node_value pool nodes (suc (rows_of nodes node_width)) row) found
-  Stands (source.Literal ty row) found =
+  abbrev pub Stands : Option Source → Option Json → Type 0
+  Stands None found = found ≡ None
+  Stands (Some (source.Node row)) found = Found (node_value pool nodes (suc (rows_of nodes node_width)) row) found
+  Stands (Some (source.Literal ty row)) found =
       Given literals row (coerce_argument_value pool names refs types fields nodes literals variables most_open p ty row) found
-  Stands (source.Default row) found = Found (part_by_part pool names literals most_open row) found
+  Stands (Some (source.Default row)) found = Found (part_by_part pool names literals most_open row) found
 
 -- whatever stands in the tables that it does not read, if the arguments can be coerced
-pub record SourceOf (arguments given literals variables : List ℕ) (definitions written : Range) (name : ℕ) (s : Source) : Type 0 where
+pub record SourceOf (arguments given literals variables : List ℕ) (definitions written : Range) (name : ℕ) (s : Option Source) : Type 0 where
   pub stands : (pool names refs types fields nodes : List ℕ) (p : Path) (args : Arguments)
       → Comes (coerce_argument_values pool names refs types fields nodes literals variables arguments given p definitions written) args
       → Stands pool names refs types fields nodes literals variables p s (argument_named name args)

@@ -11,6 +11,7 @@ ghost use Rattle.values.specs.Put.{Parted};
 ghost use Rattle.values.specs.Literals.{LiteralsParted};
 ghost use Rattle.echoing.specs.Source.{ArgumentsDiffer, definition_named, default_source, variable_source, SourceOf};
 ghost use Rattle.echoing.specs.Echo.{Shows, Echoes, EchoesVariable, EchoesFields, field_size, field_label, field_out, of_part, of_value, of_items, of_named, of_shape, of_field};
+ghost use Rattle.tables.specs.Tables.{lent};
 
 use input_coercion::arguments::given_argument;
 use input_coercion::check::{Form, Shape, given_for, items_of, literal_form};
@@ -24,38 +25,35 @@ use rows::names::name_text;
 use rows::schema::{
     ARGUMENT_WIDTH, TypeKind, TypeRef, argument_at, field_at, type_at, type_ref_at,
 };
-use tokens::json::{put_null, put_string};
-use values::literal::{PutLiteral, put_literal};
-use values::node::{Put, put_node};
+use rows::tables::Tables;
+use tokens::json::put_null;
+use values::literal::put_literal;
+use values::node::{put_label, put_node};
 use writing::place::close;
 use writing::write::put;
 
-// Where an argument's value stands: a variable's node, a literal at a type, a default; or it has none.
-#[derive(Clone, Copy)]
+// Where an argument's value stands: a variable's node, a literal at a type, a default.
+#[derive(Clone, Copy, PartialEq, Eq, Debug)]
 pub enum Source {
-    Absent,
     Node(u32),
     Literal { ty: u32, row: u32 },
     Default(u32),
 }
 
-fn default_source(default: Option<u32>) -> Source
+fn default_source(default: Option<u32>) -> Option<Source>
     ensures { result ≡ default_source default }
 {
-    match default {
-        None => Source::Absent,
-        Some(row) => Source::Default(row),
-    }
+    default.map(Source::Default)
 }
 
-fn variable_source(variables: &[u32], default: Option<u32>, name: u32) -> Source
+fn variable_source(variables: &[u32], default: Option<u32>, name: u32) -> Option<Source>
     ensures { result ≡ variable_source variables.now default (variable_named variables.now name) }
 {
     let Some(row) = variable_named(variables, name) else {
         return default_source(default);
     };
     let variable = variable_at(variables, row);
-    Source::Node(variable.node)
+    Some(Source::Node(variable.node))
 }
 
 // The definition of the argument of this name.
@@ -66,360 +64,238 @@ fn definition_named(arguments: &[u32], definitions: Range, name: u32) -> Option<
     find_word(arguments, ARGUMENT_WIDTH, ARGUMENT_NAME, definitions, name)
 }
 
-// The value of the argument of this name.
+// The value of the argument of this name, if it has one.
 pub fn argument_source(
-    arguments: &[u32],
-    given: &[u32],
-    literals: &[u32],
-    variables: &[u32],
+    tables: &Tables,
     definitions: Range,
     written: Range,
     name: u32,
-) -> Source
+) -> Option<Source>
     requires count_bound { (definitions.first + definitions.count ≤ most_rows) × (written.first + written.count ≤ most_rows) }
-    requires arguments_differ { ArgumentsDiffer arguments.now definitions }
-    ensures { SourceOf arguments.now given.now literals.now variables.now definitions written name result }
+    requires arguments_differ { let t = lent tables.now in ArgumentsDiffer t.arguments definitions }
+    ensures { let t = lent tables.now in SourceOf t.arguments t.given t.literals t.variables definitions written name result }
 {
-    let Some(row) = definition_named(arguments, definitions, name) else {
-        return Source::Absent;
-    };
-    let argument = argument_at(arguments, row);
+    let row = definition_named(tables.arguments, definitions, name)?;
+    let argument = argument_at(tables.arguments, row);
     let default = argument.default;
-    let Some(at) = given_argument(given, written, name) else {
+    let Some(at) = given_argument(tables.given, written, name) else {
         return default_source(default);
     };
-    let value = given_at(given, at);
+    let value = given_at(tables.given, at);
     let literal = value.literal;
-    match literal_form(literals, literal) {
-        Form::Variable(variable) => variable_source(variables, default, variable),
-        _ => Source::Literal {
+    match literal_form(tables.literals, literal) {
+        Form::Variable(variable) => variable_source(tables.variables, default, variable),
+        _ => Some(Source::Literal {
             ty: argument.ty,
             row: literal,
-        },
+        }),
     }
 }
 
 // A literal that converts part by part and has been checked.
 pub fn put_checked_literal(
-    pool: &[u8],
-    names: &[u32],
-    literals: &[u32],
+    tables: &Tables,
     text: &mut [u8],
     at: usize,
     room: u32,
     row: u32,
-) -> Put
-    requires { LiteralsParted literals.now }
-    ensures { Echoes room (of_part pool.now names.now literals.now room row)
+) -> Option<usize>
+    requires { let t = lent tables.now in LiteralsParted t.literals }
+    ensures { let t = lent tables.now in Echoes room (of_part t.pool t.names t.literals room row)
         text.old at result text.new }
 {
-    let PutLiteral::At(end) = put_literal(pool, names, literals, text, at, room, row) else {
-        return Put::TooFar;
-    };
-    Put::At(end)
+    put_literal(tables, text, at, room, row).ok()
 }
 
-fn put_variable(
-    pool: &[u8],
-    nodes: &[u32],
-    variables: &[u32],
-    text: &mut [u8],
-    at: usize,
-    room: u32,
-    name: u32,
-) -> Put
-    requires { Parted nodes.now }
-    ensures { EchoesVariable pool.now nodes.now variables.now room name
+fn put_variable(tables: &Tables, text: &mut [u8], at: usize, room: u32, name: u32) -> Option<usize>
+    requires { let t = lent tables.now in Parted t.nodes }
+    ensures { let t = lent tables.now in EchoesVariable t.pool t.nodes t.variables room name
         text.old at result text.new }
 {
-    let Some(row) = variable_named(variables, name) else {
-        return Put::At(put_null(text, at));
+    let Some(row) = variable_named(tables.variables, name) else {
+        return Some(put_null(text, at));
     };
-    let variable = variable_at(variables, row);
-    put_node(pool, nodes, text, at, room, variable.node)
+    let variable = variable_at(tables.variables, row);
+    put_node(tables, text, at, room, variable.node).ok()
 }
 
-#[cycle(put_coerced_put_input_field_put_input_object_put_items_put_named_put_shaped)]
+#[cycle(coerced)]
 fn put_items(
-    pool: &[u8],
-    names: &[u32],
-    type_refs: &[u32],
-    types: &[u32],
-    fields: &[u32],
-    nodes: &[u32],
-    literals: &[u32],
-    variables: &[u32],
+    tables: &Tables,
     text: &mut [u8],
     at: usize,
     room: u32,
     inner: u32,
     rows: Range,
-) -> Put
-    requires coercible { Coercible types.now nodes.now literals.now variables.now }
-    requires parted { Parted nodes.now }
+) -> Option<usize>
+    requires coercible { let t = lent tables.now in Coercible t.types t.nodes t.literals t.variables }
+    requires parted { let t = lent tables.now in Parted t.nodes }
     requires count_bound { rows.first + rows.count ≤ 4294967296 }
-    ensures { Echoes room (of_items pool.now names.now type_refs.now types.now fields.now nodes.now literals.now variables.now
+    ensures { let t = lent tables.now in Echoes room (of_items t.pool t.names t.refs t.types t.fields t.nodes t.literals t.variables
         room inner (rows_in rows)) text.old at result text.new }
 {
     if room == 0 {
-        return Put::TooFar;
+        return None;
     }
     let first = rows.first;
     let count = rows.count;
     let mut next = at;
     for i in 0..count {
         let value = put(text, next, b',');
-        let written = put_coerced(
-            pool,
-            names,
-            type_refs,
-            types,
-            fields,
-            nodes,
-            literals,
-            variables,
-            text,
-            value,
-            room - 1,
-            inner,
-            first + i,
-        );
-        let Put::At(end) = written else {
-            return Put::TooFar;
-        };
-        next = end;
+        next = put_coerced(tables, text, value, room - 1, inner, first + i)?;
     }
-    Put::At(close(text, at, next, b'[', b']'))
+    Some(close(text, at, next, b'[', b']'))
 }
 
-fn put_field_label(
-    pool: &[u8],
-    names: &[u32],
-    fields: &[u32],
-    text: &mut [u8],
-    at: usize,
-    field: u32,
-) -> usize
-    ensures { Writes text.old text.new at result
-        (field_label (name_text pool.now names.now (field_at fields.now field).name)) }
+fn put_field_label(tables: &Tables, text: &mut [u8], at: usize, field: u32) -> usize
+    ensures { let t = lent tables.now in Writes text.old text.new at result
+        (field_label (name_text t.pool t.names (field_at t.fields field).name)) }
 {
-    let def = field_at(fields, field);
-    let key = put(text, at, b',');
-    let colon = put_string(text, key, name_text(pool, names, def.name));
-    put(text, colon, b':')
+    let def = field_at(tables.fields, field);
+    put_label(
+        text,
+        at,
+        Some(name_text(tables.pool, tables.names, def.name)),
+    )
 }
 
 // An input field with its comma and its name; nothing where it is left out.
-#[cycle(put_coerced_put_input_field_put_input_object_put_items_put_named_put_shaped)]
+#[cycle(coerced)]
 fn put_input_field(
-    pool: &[u8],
-    names: &[u32],
-    type_refs: &[u32],
-    types: &[u32],
-    fields: &[u32],
-    nodes: &[u32],
-    literals: &[u32],
-    variables: &[u32],
+    tables: &Tables,
     text: &mut [u8],
     at: usize,
     room: u32,
     given: Range,
     field: u32,
-) -> Put
-    requires coercible { Coercible types.now nodes.now literals.now variables.now }
-    requires parted { Parted nodes.now }
+) -> Option<usize>
+    requires coercible { let t = lent tables.now in Coercible t.types t.nodes t.literals t.variables }
+    requires parted { let t = lent tables.now in Parted t.nodes }
     requires count_bound { given.first + given.count ≤ most_literals }
-    ensures { Shows field_size (field_out pool.now names.now fields.now field) room
-        (of_field pool.now names.now type_refs.now types.now fields.now nodes.now literals.now variables.now
+    ensures { let t = lent tables.now in Shows field_size (field_out t.pool t.names t.fields field) room
+        (of_field t.pool t.names t.refs t.types t.fields t.nodes t.literals t.variables
         room (rows_in given) field) text.old at result text.new }
 {
-    let def = field_at(fields, field);
+    let def = field_at(tables.fields, field);
     let default = def.default;
-    let literal = given_for(fields, literals, given, field);
+    let literal = given_for(tables, given, field);
     if let Some(row) = literal {
-        let value = put_field_label(pool, names, fields, text, at, field);
-        return put_coerced(
-            pool, names, type_refs, types, fields, nodes, literals, variables, text, value, room,
-            def.ty, row,
-        );
+        let value = put_field_label(tables, text, at, field);
+        return put_coerced(tables, text, value, room, def.ty, row);
     }
     let Some(constant) = default else {
-        return Put::At(at);
+        return Some(at);
     };
-    let value = put_field_label(pool, names, fields, text, at, field);
-    put_checked_literal(pool, names, literals, text, value, room, constant)
+    let value = put_field_label(tables, text, at, field);
+    put_checked_literal(tables, text, value, room, constant)
 }
 
-#[cycle(put_coerced_put_input_field_put_input_object_put_items_put_named_put_shaped)]
+#[cycle(coerced)]
 fn put_input_object(
-    pool: &[u8],
-    names: &[u32],
-    type_refs: &[u32],
-    types: &[u32],
-    fields: &[u32],
-    nodes: &[u32],
-    literals: &[u32],
-    variables: &[u32],
+    tables: &Tables,
     text: &mut [u8],
     at: usize,
     room: u32,
     given: Range,
     declared: Range,
-) -> Put
-    requires coercible { Coercible types.now nodes.now literals.now variables.now }
-    requires parted { Parted nodes.now }
+) -> Option<usize>
+    requires coercible { let t = lent tables.now in Coercible t.types t.nodes t.literals t.variables }
+    requires parted { let t = lent tables.now in Parted t.nodes }
     requires count_bound { given.first + given.count ≤ most_literals }
     requires count_bound_2 { declared.first + declared.count ≤ most_fields }
-    ensures { EchoesFields pool.now names.now type_refs.now types.now fields.now
-        nodes.now literals.now variables.now
+    ensures { let t = lent tables.now in EchoesFields t.pool t.names t.refs t.types t.fields
+        t.nodes t.literals t.variables
         room (rows_in given) (rows_in declared) text.old at result text.new }
 {
     if room == 0 {
-        return Put::TooFar;
+        return None;
     }
     let first = declared.first;
     let count = declared.count;
     let mut next = at;
     for i in 0..count {
-        let written = put_input_field(
-            pool,
-            names,
-            type_refs,
-            types,
-            fields,
-            nodes,
-            literals,
-            variables,
-            text,
-            next,
-            room - 1,
-            given,
-            first + i,
-        );
-        let Put::At(end) = written else {
-            return Put::TooFar;
-        };
-        next = end;
+        next = put_input_field(tables, text, next, room - 1, given, first + i)?;
     }
-    Put::At(close(text, at, next, b'{', b'}'))
+    Some(close(text, at, next, b'{', b'}'))
 }
 
-#[cycle(put_coerced_put_input_field_put_input_object_put_items_put_named_put_shaped)]
+#[cycle(coerced)]
 fn put_named(
-    pool: &[u8],
-    names: &[u32],
-    type_refs: &[u32],
-    types: &[u32],
-    fields: &[u32],
-    nodes: &[u32],
-    literals: &[u32],
-    variables: &[u32],
+    tables: &Tables,
     text: &mut [u8],
     at: usize,
     room: u32,
     row: u32,
     shape: Shape,
     name: u32,
-) -> Put
-    requires coercible { Coercible types.now nodes.now literals.now variables.now }
-    requires parted { Parted nodes.now }
-    requires form_at { FormAt literals.now row (Form.Shaped shape) }
-    ensures { Echoes room (of_named pool.now names.now type_refs.now types.now fields.now nodes.now literals.now variables.now
+) -> Option<usize>
+    requires coercible { let t = lent tables.now in Coercible t.types t.nodes t.literals t.variables }
+    requires parted { let t = lent tables.now in Parted t.nodes }
+    requires form_at { let t = lent tables.now in FormAt t.literals row (Form.Shaped shape) }
+    ensures { let t = lent tables.now in Echoes room (of_named t.pool t.names t.refs t.types t.fields t.nodes t.literals t.variables
         room row shape name) text.old at result text.new }
 {
-    let Some(ty) = type_named(types, name) else {
-        return Put::TooFar;
-    };
-    let def = type_at(types, ty);
+    let ty = type_named(tables.types, name)?;
+    let def = type_at(tables.types, ty);
     let kind = def.kind;
     let TypeKind::InputObject = kind else {
-        return put_checked_literal(pool, names, literals, text, at, room, row);
+        return put_checked_literal(tables, text, at, room, row);
     };
     let Shape::Keyed(given) = shape else {
-        return Put::TooFar;
+        return None;
     };
     let declared = def.fields;
-    put_input_object(
-        pool, names, type_refs, types, fields, nodes, literals, variables, text, at, room, given,
-        declared,
-    )
+    put_input_object(tables, text, at, room, given, declared)
 }
 
-#[cycle(put_coerced_put_input_field_put_input_object_put_items_put_named_put_shaped)]
+#[cycle(coerced)]
 fn put_shaped(
-    pool: &[u8],
-    names: &[u32],
-    type_refs: &[u32],
-    types: &[u32],
-    fields: &[u32],
-    nodes: &[u32],
-    literals: &[u32],
-    variables: &[u32],
+    tables: &Tables,
     text: &mut [u8],
     at: usize,
     room: u32,
     ty: u32,
     row: u32,
     shape: Shape,
-) -> Put
-    requires coercible { Coercible types.now nodes.now literals.now variables.now }
-    requires parted { Parted nodes.now }
-    requires form_at { FormAt literals.now row (Form.Shaped shape) }
-    ensures { Echoes room (of_shape pool.now names.now type_refs.now types.now fields.now nodes.now literals.now variables.now
+) -> Option<usize>
+    requires coercible { let t = lent tables.now in Coercible t.types t.nodes t.literals t.variables }
+    requires parted { let t = lent tables.now in Parted t.nodes }
+    requires form_at { let t = lent tables.now in FormAt t.literals row (Form.Shaped shape) }
+    ensures { let t = lent tables.now in Echoes room (of_shape t.pool t.names t.refs t.types t.fields t.nodes t.literals t.variables
         room ty row shape) text.old at result text.new }
 {
-    match type_ref_at(type_refs, ty) {
-        TypeRef::Named { name, nullable: _ } => put_named(
-            pool, names, type_refs, types, fields, nodes, literals, variables, text, at, room, row,
-            shape, name,
-        ),
+    match type_ref_at(tables.type_refs, ty) {
+        TypeRef::Named { name, nullable: _ } => put_named(tables, text, at, room, row, shape, name),
         TypeRef::ListOf { inner, nullable: _ } => put_items(
-            pool,
-            names,
-            type_refs,
-            types,
-            fields,
-            nodes,
-            literals,
-            variables,
+            tables,
             text,
             at,
             room,
             inner,
             items_of(row, shape),
         ),
-        TypeRef::Unknown => Put::TooFar,
+        TypeRef::Unknown => None,
     }
 }
 
 // A literal (a row) at a type reference (a row).
-#[cycle(put_coerced_put_input_field_put_input_object_put_items_put_named_put_shaped)]
+#[cycle(coerced)]
 pub fn put_coerced(
-    pool: &[u8],
-    names: &[u32],
-    type_refs: &[u32],
-    types: &[u32],
-    fields: &[u32],
-    nodes: &[u32],
-    literals: &[u32],
-    variables: &[u32],
+    tables: &Tables,
     text: &mut [u8],
     at: usize,
     room: u32,
     ty: u32,
     row: u32,
-) -> Put
-    requires coercible { Coercible types.now nodes.now literals.now variables.now }
-    requires parted { Parted nodes.now }
-    ensures { Echoes room (of_value pool.now names.now type_refs.now types.now fields.now nodes.now literals.now variables.now
+) -> Option<usize>
+    requires coercible { let t = lent tables.now in Coercible t.types t.nodes t.literals t.variables }
+    requires parted { let t = lent tables.now in Parted t.nodes }
+    ensures { let t = lent tables.now in Echoes room (of_value t.pool t.names t.refs t.types t.fields t.nodes t.literals t.variables
         room ty row) text.old at result text.new }
 {
-    match literal_form(literals, row) {
-        Form::Null => Put::At(put_null(text, at)),
-        Form::Variable(name) => put_variable(pool, nodes, variables, text, at, room, name),
-        Form::Shaped(shape) => put_shaped(
-            pool, names, type_refs, types, fields, nodes, literals, variables, text, at, room, ty,
-            row, shape,
-        ),
+    match literal_form(tables.literals, row) {
+        Form::Null => Some(put_null(text, at)),
+        Form::Variable(name) => put_variable(tables, text, at, room, name),
+        Form::Shaped(shape) => put_shaped(tables, text, at, room, ty, row, shape),
     }
 }

@@ -8,19 +8,21 @@ use Rattle.rows.specs.declared.layout.Range.{Range}
 use Rattle.graphql.specs.Run.{Choices, Res, halt, onward, ◌>>=◌}
 use Rattle.graphql.specs.Request.{Request}
 use Rattle.graphql.specs.Complete.{merge_selection_sets, execute_selection_set}
-use Rattle.planning.specs.Plans.{members_of, Lent, Planning, Made, Stopped, Plannable, PlansFor, Lookable, Storable, beneath_group, PlansAlone}
-use Rattle.planning.specs.declared.plan.Planned.{Planned}
-use Rattle.planning.specs.declared.plan.Planned.TheVariants as planned
+use Rattle.planning.specs.Plans.{Planned, roomy, members_of, Lent, Planning, Made, Stopped, Plannable, PlansFor, Lookable, Storable, beneath_group, PlansAlone}
+use Rattle.std.specs.Prelude.{Some, None, Result, Ok}
+use Rattle.codes.specs.Outcome.{code_of}
+use Rattle.codes.specs.declared.outcome.Outcome.{Outcome}
+use Rattle.planning.specs.declared.plan.Plan.{Plan}
 use Rattle.walking.specs.Gives.{as_data, Gives}
 use Rattle.walking.specs.Paths.{path_of}
 use Rattle.walking.specs.declared.path.Path.{Path}
 use Rattle.walking.specs.declared.state.State.{State}
 use Rattle.walking.specs.declared.state.Failure.TheVariants.{Stop}
-use Rattle.walking.specs.declared.state.Completed.TheVariants.{Fails}
+use Rattle.std.specs.Prelude.{Err}
 use Rattle.walking.specs.declared.state.Done.{Done}
 use Rattle.walking.proofs.Ended.{stopped_gives}
 use Rattle.resolving.specs.Steps.{doing}
-use Rattle.execution.specs.Ends.{planned_to, done_apart, stop_code}
+use Rattle.execution.specs.Ends.{planned_to, done_apart}
 use Rattle.execution.specs.Walk.{Left, SetReady, ObjectReady, SetDone, ObjectDone}
 use Rattle.execution.proofs.Frame.{kept_all, left_same, left_then, left_ready, left_grouped, left_members}
 
@@ -74,11 +76,11 @@ module _ {Q : Request} {plans spans hints : List ℕ} {path : Path} {s : State} 
     came = f.comes Q (own_tables Q) h.ready.standing
 
     -- There is a plan.
-    module _ {own top : ℕ} (e : p ≡ planned.At own top) where
-      made : Made Q set plans s.top object own top plans1
+    module _ {own : Plan} (e : p ≡ Ok (Some own)) where
+      made : Made Q set plans s.top object own.plan own.top plans1
       made = rw e at came
 
-      left_made : Left Q path.count plans spans hints s.top plans1 spans hints1 top
+      left_made : Left Q path.count plans spans hints s.top plans1 spans hints1 own.top
       left_made = record {
         further = made.further;
         kept = f.kept;
@@ -87,24 +89,24 @@ module _ {Q : Request} {plans spans hints : List ℕ} {path : Path} {s : State} 
         hinted = sized;
       }
 
-      pub object_set_ready : SetReady Q plans1 spans hints1 path (planned_to s top) own object rows
+      pub object_set_ready : SetReady Q plans1 spans hints1 path (planned_to s own.top) own.plan object rows
       object_set_ready = record {
-        ready = left_ready left_made path (planned_to s top) refl h.ready.short h.ready;
+        ready = left_ready left_made path (planned_to s own.top) refl h.ready.short h.ready;
         planned = record { set = set; right = made.right };
         leads = h.leads;
       }
 
       pub object_set : {cs text errors text2 errors2 plans2 spans2 hints2 : List ℕ} {d : Done}
-          → SetDone Q cs text errors plans1 spans hints1 path (planned_to s top) own object rows d text2 errors2 plans2 spans2 hints2
+          → SetDone Q cs text errors plans1 spans hints1 path (planned_to s own.top) own.plan object rows d text2 errors2 plans2 spans2 hints2
           → ObjectDone Q cs text errors plans spans hints path s plan group object rows d text2 errors2 plans2 spans2 hints2
       object_set q = record { left = left_then (omega arith) left_made q.left; executes = gone (q.executes set made.right) }
         where
-          gone : {cs text errors text2 errors2 : List ℕ} {x : Res _} {d : Done} → Gives as_data cs text errors (planned_to s top) x d text2 errors2
+          gone : {cs text errors text2 errors2 : List ℕ} {x : Res _} {d : Done} → Gives as_data cs text errors (planned_to s own.top) x d text2 errors2
               → Gives as_data cs text errors s x d text2 errors2
           gone g = record { what = g.what; wrote = g.wrote; noted = g.noted; chosen = g.chosen }
 
     -- There is no room for one.
-    module _ (e : p ≡ planned.NoRoom) where
+    module _ (e : p ≡ Ok None) where
       left_none : Left Q path.count plans spans hints s.top plans1 spans hints1 s.top
       left_none = record {
         further = omega arith;
@@ -131,10 +133,9 @@ module _ {Q : Request} {plans spans hints : List ℕ} {path : Path} {s : State} 
       }
 
     -- The set cannot be collected.
-    pub object_stopped : {cs text errors : List ℕ} {code : ℕ} {d : Done} → Stopped Q set plans s.top object code plans1
-        → d ≡ record { what = Fails (Stop code); state = s }
+    pub object_stops : {cs text errors : List ℕ} {o : Outcome} {d : Done} → p ≡ Err o → d ≡ record { what = Err (Stop o); state = s }
         → ObjectDone Q cs text errors plans spans hints path s plan group object rows d text errors plans1 spans hints1
-    object_stopped {cs} {code = code} t e = rw e (record {
+    object_stops {cs} {o = o} q e = let t : Stopped Q set plans s.top object (code_of o) plans1 = rw q at came in rw e (record {
       left = record {
         further = omega arith;
         kept = f.kept;
@@ -142,20 +143,8 @@ module _ {Q : Request} {plans spans hints : List ℕ} {path : Path} {s : State} 
         unspanned = kept_all spans (128 * path.count);
         hinted = sized;
       };
-      executes = rw (stops Q path object rows set plans plans1 s.top code t (drop s.choice cs)) (stopped_gives code);
+      executes = rw (stops Q path object rows set plans plans1 s.top (code_of o) t (drop s.choice cs)) (stopped_gives o);
     })
-
-    -- it is one of the two ends that stop
-    pub object_stops : {cs text errors : List ℕ} {code : ℕ} {d : Done} → ((own top : ℕ) → p ≡ planned.At own top → ⊥) → (p ≡ planned.NoRoom → ⊥) → code ≡ stop_code p
-        → d ≡ record { what = Fails (Stop code); state = s }
-        → ObjectDone Q cs text errors plans spans hints path s plan group object rows d text errors plans1 spans hints1
-    object_stops {cs} {text} {errors} {d = d} a n c e = go p refl
-      where
-        go : (x : Planned) → p ≡ x → ObjectDone Q cs text errors plans spans hints path s plan group object rows d text errors plans1 spans hints1
-        go (planned.At own top) q = absurd (a own top q)
-        go planned.NoRoom q = absurd (n q)
-        go planned.TooFar q = object_stopped (rw q at came) (rw (c, q) at e)
-        go planned.TooManyFields q = object_stopped (rw q at came) (rw (c, q) at e)
 
   -- ---- In a store of its own
 
@@ -176,17 +165,17 @@ module _ {Q : Request} {plans spans hints : List ℕ} {path : Path} {s : State} 
     small = omega arith;
   }
 
-  module _ {p : Planned} {store store1 : List ℕ} (long : length store ≡ 2048)
+  module _ {p : Result Plan Outcome} {store store1 : List ℕ} (long : length store ≡ 2048)
       (f : PlansAlone Q.tables.refs Q.tables.types Q.tables.members Q.tables.fields Q.tables.sets Q.tables.selections
       Q.tables.fragments Q.tables.nodes Q.tables.variables (beneath_group plans plan group) object store p store1) where
-    alone : Planning Q set store 0 object p store1
+    alone : Planning Q set store 0 object (roomy p) store1
     alone = f.comes Q (own_tables Q)
 
-    module _ {own top : ℕ} (e : p ≡ planned.At own top) where
-      made_alone : Made Q set store 0 object own top store1
+    module _ {own : Plan} (e : p ≡ Ok own) where
+      made_alone : Made Q set store 0 object own.plan own.top store1
       made_alone = rw e at alone
 
-      pub apart_set_ready : SetReady Q store1 spans hints path (planned_to s top) own object rows
+      pub apart_set_ready : SetReady Q store1 spans hints path (planned_to s own.top) own.plan object rows
       apart_set_ready = record {
         ready = record {
           sound = h.ready.sound;
@@ -201,7 +190,7 @@ module _ {Q : Request} {plans spans hints : List ℕ} {path : Path} {s : State} 
       }
 
       pub apart_set : {cs text errors text2 errors2 store2 spans2 hints2 : List ℕ} {d r : Done} → r ≡ done_apart d s.top
-          → SetDone Q cs text errors store1 spans hints path (planned_to s top) own object rows d text2 errors2 store2 spans2 hints2
+          → SetDone Q cs text errors store1 spans hints path (planned_to s own.top) own.plan object rows d text2 errors2 store2 spans2 hints2
           → ObjectDone Q cs text errors plans spans hints path s plan group object rows r text2 errors2 plans spans2 hints2
       apart_set e q = rw e (record {
         left = record {
@@ -214,26 +203,13 @@ module _ {Q : Request} {plans spans hints : List ℕ} {path : Path} {s : State} 
         executes = gone (q.executes set made_alone.right);
       })
         where
-          gone : {cs text errors text2 errors2 : List ℕ} {x : Res _} {d : Done} → Gives as_data cs text errors (planned_to s top) x d text2 errors2
+          gone : {cs text errors text2 errors2 : List ℕ} {x : Res _} {d : Done} → Gives as_data cs text errors (planned_to s own.top) x d text2 errors2
               → Gives as_data cs text errors s x (done_apart d s.top) text2 errors2
           gone g = record { what = g.what; wrote = g.wrote; noted = g.noted; chosen = g.chosen }
 
-    apart_stopped : {cs text errors : List ℕ} {code : ℕ} {d : Done} → Stopped Q set store 0 object code store1
-        → d ≡ record { what = Fails (Stop code); state = s }
+    pub apart_stops : {cs text errors : List ℕ} {o : Outcome} {d : Done} → p ≡ Err o → d ≡ record { what = Err (Stop o); state = s }
         → ObjectDone Q cs text errors plans spans hints path s plan group object rows d text errors plans spans hints
-    apart_stopped {cs} {code = code} t e = rw e (record {
+    apart_stops {cs} {o = o} q e = let t : Stopped Q set store 0 object (code_of o) store1 = rw q at alone in rw e (record {
       left = left_same path.count h.ready.standing;
-      executes = rw (stops Q path object rows set store store1 0 code t (drop s.choice cs)) (stopped_gives code);
+      executes = rw (stops Q path object rows set store store1 0 (code_of o) t (drop s.choice cs)) (stopped_gives o);
     })
-
-    -- it is not that there is no room
-    pub apart_stops : {cs text errors : List ℕ} {code : ℕ} {d : Done} → ((own top : ℕ) → p ≡ planned.At own top → ⊥) → code ≡ stop_code p
-        → d ≡ record { what = Fails (Stop code); state = s }
-        → ObjectDone Q cs text errors plans spans hints path s plan group object rows d text errors plans spans hints
-    apart_stops {cs} {text} {errors} {d = d} a c e = go p refl
-      where
-        go : (x : Planned) → p ≡ x → ObjectDone Q cs text errors plans spans hints path s plan group object rows d text errors plans spans hints
-        go (planned.At own top) q = absurd (a own top q)
-        go planned.NoRoom q = absurd (f.roomy q)
-        go planned.TooFar q = apart_stopped (rw q at alone) (rw (c, q) at e)
-        go planned.TooManyFields q = apart_stopped (rw q at alone) (rw (c, q) at e)

@@ -20,7 +20,7 @@ use Rattle.walking.specs.declared.state.State.{State}
 use Rattle.walking.specs.declared.state.Kind.{Kind}
 use Rattle.walking.specs.declared.state.Kind.TheVariants as kind
 use Rattle.walking.specs.declared.state.Failure.{Failure}
-use Rattle.walking.specs.declared.state.Completed.TheVariants.{Placed, Fails}
+use Rattle.std.specs.Prelude.{Ok, Err}
 use Rattle.walking.specs.declared.state.Done.{Done}
 use Rattle.walking.proofs.Items.{listing, Listing, listing_begin, listing_again, listing_lost, listing_ended}
 use Rattle.walking.proofs.Ended.{text_long}
@@ -130,7 +130,7 @@ module _ {Q : Request} {plans₀ spans₀ hints₀ : List ℕ} {path : Path} {s 
       → Itemizing Q cs text₀ errors₀ plans₀ spans₀ hints₀ path s plan group asked inner rows text errors plans spans hints state i
       → {text' : List ℕ} {end : ℕ} → rows.count ≤ i → Closes 91 93 text s.at state.at text' end
       → ItemsDone Q cs text₀ errors₀ plans₀ spans₀ hints₀ path s plan group asked inner rows
-      (record { what = Placed kind.List; state = moved_to state end }) text' errors plans spans hints
+      (record { what = Ok kind.List; state = moved_to state end }) text' errors plans spans hints
   unfolding listing
   items_ended {cs} {text₀} {errors₀} {errors = errors} {inner = inner} {state = state} {i} v {text'} {end} l c = record {
     left = v.left;
@@ -141,7 +141,7 @@ module _ {Q : Request} {plans₀ spans₀ hints₀ : List ℕ} {path : Path} {s 
     where
       ended : (args : Arguments) → Asks Q asked (group_at Q.tables.selections plans₀ plan group) args → Gives as_value cs text₀ errors₀ s
           (listing (item_run Q path (group_at Q.tables.selections plans₀ plan group) args inner) [] (numbered 0 (rows_in rows)) (drop s.choice cs))
-          (record { what = Placed kind.List; state = moved_to state end }) text' errors
+          (record { what = Ok kind.List; state = moved_to state end }) text' errors
       ended args a =
           listing_ended (item_run Q path (group_at Q.tables.selections plans₀ plan group) args inner) cs _ text₀ errors₀ s
           (rw (item_end rows i l) at (v.listing args a)) c
@@ -209,7 +209,7 @@ module _ (pool names refs types members fields arguments sets selections given f
           ∙ v.same_errors
 
       -- An item was completed.
-      pub items_again : {k : Kind} → d.what ≡ Placed k
+      pub items_again : {k : Kind} → d.what ≡ Ok k
           → Itemizing Q cs text₀ errors₀ plans₀ spans₀ hints₀ path s plan group asked inner rows text2 errors2 plans2 spans2 hints2 d.state (i + 1)
       items_again e = let n : i + 1 ≡ suc i = omega arith in record {
         left = on;
@@ -220,7 +220,7 @@ module _ (pool names refs types members fields arguments sets selections given f
       }
 
       -- One failed, and so does the list.
-      pub items_lost : {f : Failure} → d.what ≡ Fails f → ItemsDone Q cs text₀ errors₀ plans₀ spans₀ hints₀ path s plan group asked inner rows
+      pub items_lost : {f : Failure} → d.what ≡ Err f → ItemsDone Q cs text₀ errors₀ plans₀ spans₀ hints₀ path s plan group asked inner rows
           (record { what = d.what; state = moved_to d.state s.at }) text2 errors2 plans2 spans2 hints2
       unfolding listing
       items_lost e = record {

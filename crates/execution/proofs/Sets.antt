@@ -22,7 +22,7 @@ use Rattle.walking.specs.declared.state.State.{State}
 use Rattle.walking.specs.declared.state.Kind.{Kind}
 use Rattle.walking.specs.declared.state.Kind.TheVariants as kind
 use Rattle.walking.specs.declared.state.Failure.{Failure}
-use Rattle.walking.specs.declared.state.Completed.TheVariants.{Placed, Fails}
+use Rattle.std.specs.Prelude.{Ok, Err}
 use Rattle.walking.specs.declared.state.Done.{Done}
 use Rattle.walking.proofs.Ended.{text_long}
 use Rattle.walking.proofs.RunLaws.{bind_at}
@@ -127,7 +127,7 @@ module _ {Q : Request} {plans₀ spansE hints₀ : List ℕ} {path : Path} {s : 
         -- No group is left, and the brackets are put.
         pub set_ended : {text' : List ℕ} {end : ℕ} → groups ≤ taken → Closes 123 125 text s.at state.at text' end
             → SetDone Q cs text₀ errors₀ plans₀ spansE hints₀ path s plan object rows
-            (record { what = Placed kind.Object; state = moved_to state end }) text' errors plans spans hints
+            (record { what = Ok kind.Object; state = moved_to state end }) text' errors plans spans hints
         set_ended l close = record {
           left = since v.left;
           executes = λ set p. rw (set_whole cs text₀ errors₀ set p) (turning_ended _ _ _ _ _ _ _ _ _ v.turning l close);
@@ -178,7 +178,7 @@ module _ {Q : Request} {plans₀ spansE hints₀ : List ℕ} {path : Path} {s : 
                 set_room = turning_room _ _ _ _ _ _ _ _ _ v.turning lt nx spans2 q.left.unspanned.sized
 
                 -- The set is given up.
-                pub set_lost : {f : Failure} → d.what ≡ Fails f
+                pub set_lost : {f : Failure} → d.what ≡ Err f
                     → SetDone Q cs text₀ errors₀ plans₀ spansE hints₀ path s plan object rows
                     (passed_list (record { what = d.what; state = moved_to d.state s.at })) text2 errors2 plans2 spans2 hints2
                 set_lost f = record {
@@ -187,7 +187,7 @@ module _ {Q : Request} {plans₀ spansE hints₀ : List ℕ} {path : Path} {s : 
                 }
 
                 -- The entry goes to its place.
-                pub set_again : {k : Kind} → d.what ≡ Placed k → {text3 spans3 : List ℕ} {low' : ℕ} → length text3 ≡ length text2
+                pub set_again : {k : Kind} → d.what ≡ Ok k → {text3 spans3 : List ℕ} {low' : ℕ} → length text3 ≡ length text2
                     → Puts text2 spans2 base i low taken s.at state.at d.state.at low' text3 spans3
                     → Grouping Q cs text₀ errors₀ plans₀ spans₀ hints₀ path s plan object rows text3 errors2 plans2 spans3 hints2 d.state groups base low'
                     (taken + 1)

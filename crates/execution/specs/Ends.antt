@@ -1,11 +1,8 @@
 -- How a list and an object end, and a set that has a store to itself.
 use Rattle.std.specs.Prelude.{◌≡◌, Bool, not, List, ℕ, length}
 use Rattle.writing.specs.Wrote.{Wrote}
-use Rattle.codes.specs.Outcome.{too_far, too_many_fields}
 use Rattle.graphql.specs.Run.{Res, pure, onward, lowered}
 use Rattle.graphql.specs.Data.{Data, Val, val}
-use Rattle.planning.specs.declared.plan.Planned.{Planned}
-use Rattle.planning.specs.declared.plan.Planned.TheVariants as planned
 use Rattle.walking.specs.Gives.{as_data, as_value, as_entry, moved_to, Gives}
 use Rattle.walking.specs.Settled.{settled}
 use Rattle.walking.specs.declared.state.State.{State}
@@ -16,13 +13,6 @@ planned_to s top = record { at = s.at; errs = s.errs; choice = s.choice; top = t
 
 abbrev pub done_apart : Done → ℕ → Done
 done_apart d top = record { what = d.what; state = planned_to d.state top }
-
--- the code of a set that could not be collected; of a plan that there is, it is not asked
-abbrev pub stop_code : Planned → ℕ
-stop_code (planned.At plan top) = too_far
-stop_code planned.NoRoom = too_far
-stop_code planned.TooFar = too_far
-stop_code planned.TooManyFields = too_many_fields
 
 -- the list, as the definition's `complete_items` and the place around it end it
 abbrev pub list_ended : (nullable non_null : Bool) → Res Val → Res Val

@@ -1,9 +1,7 @@
 // How a list, an object and a set that stands apart end.
 ghost use Rattle.std.specs.Prelude.{◌≡◌};
-ghost use Rattle.execution.specs.Ends.{planned_to, stop_code, ListEnds, ObjectEnds, done_apart};
+ghost use Rattle.execution.specs.Ends.{planned_to, ListEnds, ObjectEnds, done_apart};
 
-use codes::outcome::Outcome;
-use planning::plan::Planned;
 use walking::settle::{past_list, settle, try_nullify};
 use walking::state::{Done, State};
 
@@ -16,18 +14,6 @@ pub fn planned_to(s: State, top: usize) -> State
         errs: s.errs,
         choice: s.choice,
         top: top,
-    }
-}
-
-// The code of a set that could not be collected.
-pub fn stop_code(planned: Planned) -> u32
-    ensures { result ≡ stop_code planned }
-{
-    match planned {
-        Planned::At { plan: _, top: _ } => Outcome::TooFar.code(),
-        Planned::NoRoom => Outcome::TooFar.code(),
-        Planned::TooFar => Outcome::TooFar.code(),
-        Planned::TooManyFields => Outcome::TooManyFields.code(),
     }
 }
 

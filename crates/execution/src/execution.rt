@@ -1,17 +1,19 @@
 // Selection sets, lists and objects call one another; the path room falls at each field and item.
-ghost use Rattle.resolving.specs.Sound.{asking};
+ghost use Rattle.resolving.specs.Sound.{request_of};
 ghost use Rattle.execution.specs.Walk.{SetReady, FieldReady, StepReady, ItemsReady, ObjectReady, SetDone, ObjectDone, FieldDone, StepDone, ItemsDone};
+ghost use Rattle.tables.specs.Tables.{lent};
 
-use crate::ends::{done_apart, list_done, object_done, planned_to, stop_code};
+use crate::ends::{done_apart, list_done, object_done, planned_to};
 use ordering::order::{clear_spans, next_group, past_choice, put_in_place};
 use planning::layout::{SMALL_WORDS, definition, first_field, group_count};
-use planning::plan::{Planned, plan_apart, plan_for};
+use planning::plan::{plan_apart, plan_for};
 use resolving::field::{Container, Step, complete_item, execute_field};
 use resolving::resolve::Asked;
 use rows::layout::Range;
+use rows::tables::Tables;
 use walking::path::{Path, below};
 use walking::settle::{moved, past_list, placed, stopped};
-use walking::state::{Completed, Done, Kind, State};
+use walking::state::{Done, Kind, State};
 use writing::place::close;
 
 // The groups of a set have their spans so many words behind those of the set around it.
@@ -20,21 +22,7 @@ pub const SPANS: usize = 128;
 // The items of a list, each as far as it goes.
 #[cycle(complete_items_enter_field_execute_apart_execute_object_execute_selection_set_go_on)]
 fn complete_items(
-    pool: &[u8],
-    names: &[u32],
-    type_refs: &[u32],
-    types: &[u32],
-    members: &[u32],
-    fields: &[u32],
-    arguments: &[u32],
-    sets: &[u32],
-    selections: &[u32],
-    given: &[u32],
-    fragments: &[u32],
-    nodes: &[u32],
-    literals: &[u32],
-    variables: &[u32],
-    answers: &[u32],
+    tables: &Tables,
     choices: &[u32],
     text: &mut [u8],
     errors: &mut [u32],
@@ -49,8 +37,8 @@ fn complete_items(
     rows: Range,
     s: State,
 ) -> Done
-    requires { ItemsReady (asking pool.now names.now type_refs.now types.now members.now fields.now arguments.now sets.now selections.now given.now fragments.now nodes.now literals.now variables.now answers.now) plans.old spans.old hints.old path s plan group asked rows }
-    ensures { ItemsDone (asking pool.now names.now type_refs.now types.now members.now fields.now arguments.now sets.now selections.now given.now fragments.now nodes.now literals.now variables.now answers.now) choices.now text.old errors.old plans.old spans.old hints.old path s plan group asked inner rows result text.new errors.new plans.new spans.new hints.new }
+    requires { ItemsReady (request_of (lent tables.now)) plans.old spans.old hints.old path s plan group asked rows }
+    ensures { ItemsDone (request_of (lent tables.now)) choices.now text.old errors.old plans.old spans.old hints.old path s plan group asked inner rows result text.new errors.new plans.new spans.new hints.new }
 {
     let first = rows.first;
     let count = rows.count;
@@ -58,18 +46,7 @@ fn complete_items(
     let mut state = s;
     for i in 0..count {
         let step = complete_item(
-            pool,
-            names,
-            type_refs,
-            types,
-            members,
-            fields,
-            arguments,
-            given,
-            nodes,
-            literals,
-            variables,
-            answers,
+            tables,
             text,
             errors,
             path,
@@ -80,18 +57,16 @@ fn complete_items(
             state,
         );
         let d = go_on(
-            pool, names, type_refs, types, members, fields, arguments, sets, selections, given,
-            fragments, nodes, literals, variables, answers, choices, text, errors, plans, spans,
-            hints, path, plan, group, step, state,
+            tables, choices, text, errors, plans, spans, hints, path, plan, group, step, state,
         );
         state = d.state;
         let what = d.what;
-        let Completed::Placed(_) = what else {
+        if let Err(_) = what {
             return Done {
                 what: what,
                 state: moved(state, start),
             };
-        };
+        }
     }
     let end = close(text, start, state.at, b'[', b']');
     placed(state, end, Kind::List)
@@ -100,21 +75,7 @@ fn complete_items(
 // An object whose plan found no room has a store to itself, as long as it takes.
 #[cycle(complete_items_enter_field_execute_apart_execute_object_execute_selection_set_go_on)]
 fn execute_apart(
-    pool: &[u8],
-    names: &[u32],
-    type_refs: &[u32],
-    types: &[u32],
-    members: &[u32],
-    fields: &[u32],
-    arguments: &[u32],
-    sets: &[u32],
-    selections: &[u32],
-    given: &[u32],
-    fragments: &[u32],
-    nodes: &[u32],
-    literals: &[u32],
-    variables: &[u32],
-    answers: &[u32],
+    tables: &Tables,
     choices: &[u32],
     text: &mut [u8],
     errors: &mut [u32],
@@ -128,33 +89,18 @@ fn execute_apart(
     rows: Range,
     s: State,
 ) -> Done
-    requires { ObjectReady (asking pool.now names.now type_refs.now types.now members.now fields.now arguments.now sets.now selections.now given.now fragments.now nodes.now literals.now variables.now answers.now) plans.now spans.old hints.old path s plan group object rows }
-    ensures { ObjectDone (asking pool.now names.now type_refs.now types.now members.now fields.now arguments.now sets.now selections.now given.now fragments.now nodes.now literals.now variables.now answers.now) choices.now text.old errors.old plans.now spans.old hints.old path s plan group object rows result text.new errors.new plans.now spans.new hints.new }
+    requires { ObjectReady (request_of (lent tables.now)) plans.now spans.old hints.old path s plan group object rows }
+    ensures { ObjectDone (request_of (lent tables.now)) choices.now text.old errors.old plans.now spans.old hints.old path s plan group object rows result text.new errors.new plans.now spans.new hints.new }
 {
     let mut store = [0u16; SMALL_WORDS];
-    let planned = plan_apart(
-        type_refs, types, members, fields, sets, selections, fragments, nodes, variables, plans,
-        &mut store, plan, group, object,
-    );
-    let Planned::At { plan: own, top } = planned else {
-        return stopped(s, stop_code(planned));
+    let own = match plan_apart(tables, plans, &mut store, plan, group, object) {
+        Ok(own) => own,
+        Err(outcome) => {
+            return stopped(s, outcome);
+        }
     };
     let d = execute_selection_set(
-        pool,
-        names,
-        type_refs,
-        types,
-        members,
-        fields,
-        arguments,
-        sets,
-        selections,
-        given,
-        fragments,
-        nodes,
-        literals,
-        variables,
-        answers,
+        tables,
         choices,
         text,
         errors,
@@ -162,10 +108,10 @@ fn execute_apart(
         spans,
         hints,
         path,
-        own,
+        own.plan,
         object,
         rows,
-        planned_to(s, top),
+        planned_to(s, own.top),
     );
     done_apart(d, s.top)
 }
@@ -173,21 +119,7 @@ fn execute_apart(
 // The set of an object answer: ExecuteSelectionSet of what is beneath a group, by its plan.
 #[cycle(complete_items_enter_field_execute_apart_execute_object_execute_selection_set_go_on)]
 fn execute_object(
-    pool: &[u8],
-    names: &[u32],
-    type_refs: &[u32],
-    types: &[u32],
-    members: &[u32],
-    fields: &[u32],
-    arguments: &[u32],
-    sets: &[u32],
-    selections: &[u32],
-    given: &[u32],
-    fragments: &[u32],
-    nodes: &[u32],
-    literals: &[u32],
-    variables: &[u32],
-    answers: &[u32],
+    tables: &Tables,
     choices: &[u32],
     text: &mut [u8],
     errors: &mut [u32],
@@ -201,35 +133,21 @@ fn execute_object(
     rows: Range,
     s: State,
 ) -> Done
-    requires { ObjectReady (asking pool.now names.now type_refs.now types.now members.now fields.now arguments.now sets.now selections.now given.now fragments.now nodes.now literals.now variables.now answers.now) plans.old spans.old hints.old path s plan group object rows }
-    ensures { ObjectDone (asking pool.now names.now type_refs.now types.now members.now fields.now arguments.now sets.now selections.now given.now fragments.now nodes.now literals.now variables.now answers.now) choices.now text.old errors.old plans.old spans.old hints.old path s plan group object rows result text.new errors.new plans.new spans.new hints.new }
+    requires { ObjectReady (request_of (lent tables.now)) plans.old spans.old hints.old path s plan group object rows }
+    ensures { ObjectDone (request_of (lent tables.now)) choices.now text.old errors.old plans.old spans.old hints.old path s plan group object rows result text.new errors.new plans.new spans.new hints.new }
 {
-    let planned = plan_for(
-        type_refs, types, members, fields, sets, selections, fragments, nodes, variables, plans,
-        hints, s.top, plan, group, object,
-    );
+    let planned = match plan_for(tables, plans, hints, s.top, plan, group, object) {
+        Ok(planned) => planned,
+        Err(outcome) => {
+            return stopped(s, outcome);
+        }
+    };
     match planned {
-        Planned::NoRoom => execute_apart(
-            pool, names, type_refs, types, members, fields, arguments, sets, selections, given,
-            fragments, nodes, literals, variables, answers, choices, text, errors, plans, spans,
-            hints, path, plan, group, object, rows, s,
+        None => execute_apart(
+            tables, choices, text, errors, plans, spans, hints, path, plan, group, object, rows, s,
         ),
-        Planned::At { plan: own, top } => execute_selection_set(
-            pool,
-            names,
-            type_refs,
-            types,
-            members,
-            fields,
-            arguments,
-            sets,
-            selections,
-            given,
-            fragments,
-            nodes,
-            literals,
-            variables,
-            answers,
+        Some(own) => execute_selection_set(
+            tables,
             choices,
             text,
             errors,
@@ -237,33 +155,18 @@ fn execute_object(
             spans,
             hints,
             path,
-            own,
+            own.plan,
             object,
             rows,
-            planned_to(s, top),
+            planned_to(s, own.top),
         ),
-        _ => stopped(s, stop_code(planned)),
     }
 }
 
 // A field or an item that is a list or an object is completed; another is done.
 #[cycle(complete_items_enter_field_execute_apart_execute_object_execute_selection_set_go_on)]
 fn go_on(
-    pool: &[u8],
-    names: &[u32],
-    type_refs: &[u32],
-    types: &[u32],
-    members: &[u32],
-    fields: &[u32],
-    arguments: &[u32],
-    sets: &[u32],
-    selections: &[u32],
-    given: &[u32],
-    fragments: &[u32],
-    nodes: &[u32],
-    literals: &[u32],
-    variables: &[u32],
-    answers: &[u32],
+    tables: &Tables,
     choices: &[u32],
     text: &mut [u8],
     errors: &mut [u32],
@@ -276,8 +179,8 @@ fn go_on(
     step: Step,
     s: State,
 ) -> Done
-    requires { StepReady (asking pool.now names.now type_refs.now types.now members.now fields.now arguments.now sets.now selections.now given.now fragments.now nodes.now literals.now variables.now answers.now) plans.old spans.old hints.old path s plan group step }
-    ensures { StepDone (asking pool.now names.now type_refs.now types.now members.now fields.now arguments.now sets.now selections.now given.now fragments.now nodes.now literals.now variables.now answers.now) choices.now text.old errors.old plans.old spans.old hints.old path s plan group step result text.new errors.new plans.new spans.new hints.new }
+    requires { StepReady (request_of (lent tables.now)) plans.old spans.old hints.old path s plan group step }
+    ensures { StepDone (request_of (lent tables.now)) choices.now text.old errors.old plans.old spans.old hints.old path s plan group step result text.new errors.new plans.new spans.new hints.new }
 {
     let deeper = match step {
         Step::Finished(d) => {
@@ -294,21 +197,7 @@ fn go_on(
             rows,
         } => {
             let d = complete_items(
-                pool,
-                names,
-                type_refs,
-                types,
-                members,
-                fields,
-                arguments,
-                sets,
-                selections,
-                given,
-                fragments,
-                nodes,
-                literals,
-                variables,
-                answers,
+                tables,
                 choices,
                 text,
                 errors,
@@ -327,21 +216,7 @@ fn go_on(
         }
         Container::Object { object, rows } => {
             let d = execute_object(
-                pool,
-                names,
-                type_refs,
-                types,
-                members,
-                fields,
-                arguments,
-                sets,
-                selections,
-                given,
-                fragments,
-                nodes,
-                literals,
-                variables,
-                answers,
+                tables,
                 choices,
                 text,
                 errors,
@@ -363,21 +238,7 @@ fn go_on(
 // The field of a group, with its comma and its key.
 #[cycle(complete_items_enter_field_execute_apart_execute_object_execute_selection_set_go_on)]
 fn enter_field(
-    pool: &[u8],
-    names: &[u32],
-    type_refs: &[u32],
-    types: &[u32],
-    members: &[u32],
-    fields: &[u32],
-    arguments: &[u32],
-    sets: &[u32],
-    selections: &[u32],
-    given: &[u32],
-    fragments: &[u32],
-    nodes: &[u32],
-    literals: &[u32],
-    variables: &[u32],
-    answers: &[u32],
+    tables: &Tables,
     choices: &[u32],
     text: &mut [u8],
     errors: &mut [u32],
@@ -391,23 +252,11 @@ fn enter_field(
     rows: Range,
     s: State,
 ) -> Done
-    requires { FieldReady (asking pool.now names.now type_refs.now types.now members.now fields.now arguments.now sets.now selections.now given.now fragments.now nodes.now literals.now variables.now answers.now) plans.old spans.old hints.old path s plan group object rows }
-    ensures { FieldDone (asking pool.now names.now type_refs.now types.now members.now fields.now arguments.now sets.now selections.now given.now fragments.now nodes.now literals.now variables.now answers.now) choices.now text.old errors.old plans.old spans.old hints.old path s plan group object rows result text.new errors.new plans.new spans.new hints.new }
+    requires { FieldReady (request_of (lent tables.now)) plans.old spans.old hints.old path s plan group object rows }
+    ensures { FieldDone (request_of (lent tables.now)) choices.now text.old errors.old plans.old spans.old hints.old path s plan group object rows result text.new errors.new plans.new spans.new hints.new }
 {
     let step = execute_field(
-        pool,
-        names,
-        type_refs,
-        types,
-        members,
-        fields,
-        arguments,
-        selections,
-        given,
-        nodes,
-        literals,
-        variables,
-        answers,
+        tables,
         text,
         errors,
         path,
@@ -418,30 +267,14 @@ fn enter_field(
         s,
     );
     go_on(
-        pool, names, type_refs, types, members, fields, arguments, sets, selections, given,
-        fragments, nodes, literals, variables, answers, choices, text, errors, plans, spans, hints,
-        path, plan, group, step, s,
+        tables, choices, text, errors, plans, spans, hints, path, plan, group, step, s,
     )
 }
 
 // ExecuteSelectionSet: the groups of a plan, in the order that the choices say. Each entry goes to its place among those that there are.
 #[cycle(complete_items_enter_field_execute_apart_execute_object_execute_selection_set_go_on)]
 pub fn execute_selection_set(
-    pool: &[u8],
-    names: &[u32],
-    type_refs: &[u32],
-    types: &[u32],
-    members: &[u32],
-    fields: &[u32],
-    arguments: &[u32],
-    sets: &[u32],
-    selections: &[u32],
-    given: &[u32],
-    fragments: &[u32],
-    nodes: &[u32],
-    literals: &[u32],
-    variables: &[u32],
-    answers: &[u32],
+    tables: &Tables,
     choices: &[u32],
     text: &mut [u8],
     errors: &mut [u32],
@@ -454,8 +287,8 @@ pub fn execute_selection_set(
     rows: Range,
     s: State,
 ) -> Done
-    requires { SetReady (asking pool.now names.now type_refs.now types.now members.now fields.now arguments.now sets.now selections.now given.now fragments.now nodes.now literals.now variables.now answers.now) plans.old spans.old hints.old path s plan object rows }
-    ensures { SetDone (asking pool.now names.now type_refs.now types.now members.now fields.now arguments.now sets.now selections.now given.now fragments.now nodes.now literals.now variables.now answers.now) choices.now text.old errors.old plans.old spans.old hints.old path s plan object rows result text.new errors.new plans.new spans.new hints.new }
+    requires { SetReady (request_of (lent tables.now)) plans.old spans.old hints.old path s plan object rows }
+    ensures { SetDone (request_of (lent tables.now)) choices.now text.old errors.old plans.old spans.old hints.old path s plan object rows result text.new errors.new plans.new spans.new hints.new }
 {
     let groups = group_count(plans, plan);
     let base = SPANS * path.count;
@@ -472,18 +305,17 @@ pub fn execute_selection_set(
             top: state.top,
         };
         let d = enter_field(
-            pool, names, type_refs, types, members, fields, arguments, sets, selections, given,
-            fragments, nodes, literals, variables, answers, choices, text, errors, plans, spans,
-            hints, path, plan, group, object, rows, next,
+            tables, choices, text, errors, plans, spans, hints, path, plan, group, object, rows,
+            next,
         );
         state = d.state;
         let what = d.what;
-        let Completed::Placed(_) = what else {
+        if let Err(_) = what {
             return past_list(Done {
                 what: what,
                 state: moved(state, start),
             });
-        };
+        }
         low = put_in_place(
             text, spans, base, group, low, taken, start, next.at, state.at,
         );

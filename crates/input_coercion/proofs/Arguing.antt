@@ -9,7 +9,7 @@ use Rattle.rows.specs.Limits.{most_rows}
 use Rattle.rows.specs.Schema.{argument_at}
 use Rattle.rows.specs.Document.{given_at}
 use Rattle.rows.specs.declared.layout.Range.{Range}
-use Rattle.std.specs.Prelude.{Option, Some, None}
+use Rattle.std.specs.Prelude.{Option, Some, None, Ok, Err}
 use Rattle.rows.specs.declared.schema.Argument.{Argument}
 use Rattle.rows.specs.declared.document.Given.{Given}
 use Rattle.codes.specs.declared.errors.FieldError.TheVariants as error
@@ -20,15 +20,13 @@ use Rattle.graphql.specs.Errors.{place_among, error_of}
 use Rattle.graphql.specs.Lookup.{rows_from, rows_in, non_null, variable_named}
 use Rattle.graphql.specs.Values.{variable_value}
 use Rattle.graphql.specs.Coerce.{null_against, argument_error, is_non_null, valued, default_argument, variable_argument, literal_argument, given_argument, coerce_argument, coerce_argument_values}
-use Rattle.input_coercion.specs.Ends.{argument_fails, Checks}
+use Rattle.input_coercion.specs.Ends.{Coercion, argument_fails, Checks}
 use Rattle.input_coercion.specs.Coerced.{FormAt, Valuable, given_named, of_part, of_value, of_default, of_variable_argument, of_argument, of_arguments, ChecksDefault, ChecksVariable}
-use Rattle.input_coercion.specs.declared.check.Coercion.{Coercion}
-use Rattle.input_coercion.specs.declared.check.Coercion.TheVariants as coercion
+use Rattle.input_coercion.specs.declared.check.Uncoerced.{Uncoerced}
 use Rattle.input_coercion.specs.declared.check.Shape.{Shape}
 use Rattle.input_coercion.specs.declared.check.Form.{Form}
 use Rattle.input_coercion.specs.declared.check.Form.TheVariants as form
-use Rattle.input_coercion.proofs.Ends.{Stopped, value_pure, ends_made}
-use Rattle.input_coercion.proofs.Leaves.{not_found, is_found_lem}
+use Rattle.input_coercion.proofs.Ends.{value_pure, ends_made}
 use Rattle.input_coercion.proofs.Going.{each, Going, going_begin, going_again, going_stopped, going_ended}
 use Rattle.input_coercion.proofs.Walk.{value_null}
 
@@ -53,7 +51,7 @@ module _ (refs literals : List ℕ) (argument : Argument) where
       };
     }
 
-    pub default_absent : b ≡ false → ChecksDefault refs literals argument coercion.Value
+    pub default_absent : b ≡ false → ChecksDefault refs literals argument (Ok tt)
     unfolding of_default default_argument is_non_null when
     default_absent t = record {
       checks = λ types fields nodes variables arguments given row e. record {
@@ -71,7 +69,7 @@ module _ (refs nodes literals variables : List ℕ) (argument : Argument) (name 
   unfolding of_variable_argument variable_argument of_default
   variable_default h q = record {
     checks = λ types fields arguments given row a. record {
-      ends = λ pool names p. rw (not_found (variable_named variables name) e h) ((q.checks types fields nodes variables arguments given row a).ends pool names p);
+      ends = λ pool names p. rw (← e, h) ((q.checks types fields nodes variables arguments given row a).ends pool names p);
     };
   }
 
@@ -81,16 +79,16 @@ module _ (refs nodes literals variables : List ℕ) (argument : Argument) (name 
     unfolding of_variable_argument variable_argument argument_error when error_of place_of place_among
     variable_null t f = record {
       checks = λ types fields arguments given row a. record {
-        ends = λ pool names p. rw (is_found_lem (variable_named variables name) e h, ← a, ← g, t, f) (λ c. refl);
+        ends = λ pool names p. rw (← e, h, ← a, ← g, t, f) (λ c. refl);
       };
     }
 
-    pub variable_value_lem : Valuable nodes variables → b ≡ false → ChecksVariable refs nodes literals variables argument name coercion.Value
+    pub variable_value_lem : Valuable nodes variables → b ≡ false → ChecksVariable refs nodes literals variables argument name (Ok tt)
     unfolding of_variable_argument variable_argument valued when
     variable_value_lem w t = record {
       checks = λ types fields arguments given row a. record {
         ends = λ pool names p.
-            rw (is_found_lem (variable_named variables name) e h, ← a, ← g, t) (ends_made p (variable_value pool nodes variables v) _ coercion.Value (w.values pool v));
+            rw (← e, h, ← a, ← g, t) (ends_made p (variable_value pool nodes variables v) _ (Ok tt) (w.values pool v));
       };
     }
 
@@ -105,7 +103,7 @@ module _ (refs types fields nodes literals variables arguments given : List ℕ)
   unfolding of_argument coerce_argument of_default
   argument_default_lem h q = record {
     ends = λ pool names p.
-        rw (← a, not_found (given_named given argument.name (rows_in written)) e h) ((q.checks types fields nodes variables arguments given row a).ends pool names p);
+        rw (← a, ← e, h) ((q.checks types fields nodes variables arguments given row a).ends pool names p);
   }
 
   module _ {at : ℕ} {value : Given} {f : Form} (h : found ≡ Some at) (v : value ≡ given_at given at) (l : FormAt literals value.literal f) where
@@ -114,15 +112,15 @@ module _ (refs types fields nodes literals variables arguments given : List ℕ)
           → Checks (of_argument refs types fields nodes literals variables arguments given written row) r
       unfolding of_argument coerce_argument given_argument is_non_null argument_error when error_of place_of place_among
       argument_null t m = record {
-        ends = λ pool names p. rw (← a, is_found_lem (given_named given argument.name (rows_in written)) e h, ← v, l.is, k, ← a, ← g, t, m) (λ c. refl);
+        ends = λ pool names p. rw (← a, ← e, h, ← v, l.is, k, ← a, ← g, t, m) (λ c. refl);
       }
 
-      pub argument_nothing : b ≡ false → Checks (of_argument refs types fields nodes literals variables arguments given written row) coercion.Value
+      pub argument_nothing : b ≡ false → Checks (of_argument refs types fields nodes literals variables arguments given written row) (Ok tt)
       unfolding of_argument coerce_argument given_argument is_non_null literal_argument valued when of_value
       argument_nothing t = record {
         ends = λ pool names p.
-            rw (← a, is_found_lem (given_named given argument.name (rows_in written)) e h, ← v, l.is, k, ← a, ← g, t)
-            (ends_made p _ _ coercion.Value ((value_null refs types fields nodes literals variables most_open argument.ty value.literal l k g t).ends pool names p));
+            rw (← a, ← e, h, ← v, l.is, k, ← a, ← g, t)
+            (ends_made p _ _ (Ok tt) ((value_null refs types fields nodes literals variables most_open argument.ty value.literal l k g t).ends pool names p));
       }
 
     pub argument_variable : {name : ℕ} {r : Coercion} → f ≡ form.Variable name → ChecksVariable refs nodes literals variables argument name r
@@ -130,7 +128,7 @@ module _ (refs types fields nodes literals variables arguments given : List ℕ)
     unfolding of_argument coerce_argument given_argument of_variable_argument
     argument_variable k q = record {
       ends = λ pool names p.
-          rw (← a, is_found_lem (given_named given argument.name (rows_in written)) e h, ← v, l.is, k) ((q.checks types fields arguments given row a).ends pool names p);
+          rw (← a, ← e, h, ← v, l.is, k) ((q.checks types fields arguments given row a).ends pool names p);
     }
 
     pub argument_shaped : {s : Shape} {r : Coercion} → f ≡ form.Shaped s
@@ -139,7 +137,7 @@ module _ (refs types fields nodes literals variables arguments given : List ℕ)
     unfolding of_argument coerce_argument given_argument literal_argument valued of_value
     argument_shaped {r = r'} k q = record {
       ends = λ pool names p.
-          rw (← a, is_found_lem (given_named given argument.name (rows_in written)) e h, ← v, l.is, k, ← a) (ends_made p _ _ r' (q.ends pool names p));
+          rw (← a, ← e, h, ← v, l.is, k, ← a) (ends_made p _ _ r' (q.ends pool names p));
     }
 
 pub ruleset arguing = (argument_default_lem, argument_null, argument_nothing, argument_variable, argument_shaped)
@@ -158,13 +156,13 @@ module _ (refs types fields nodes literals variables arguments given : List ℕ)
   arguments_begin w = going_begin _ definitions.first definitions.count (omega arith)
 
   module _ {i : ℕ} (g : Going (of_argument refs types fields nodes literals variables arguments given written) definitions.first definitions.count i) where
-    pub arguments_stopped : {r : Coercion} → i < definitions.count
-        → Checks (of_argument refs types fields nodes literals variables arguments given written (definitions.first + i)) r → Stopped r
-        → Checks (of_arguments refs types fields nodes literals variables arguments given definitions written) r
-    arguments_stopped l q s = arguments_made (going_stopped _ definitions.first definitions.count g l q s)
+    pub arguments_stopped : {e : Uncoerced} → i < definitions.count
+        → Checks (of_argument refs types fields nodes literals variables arguments given written (definitions.first + i)) (Err e)
+        → Checks (of_arguments refs types fields nodes literals variables arguments given definitions written) (Err e)
+    arguments_stopped l q = arguments_made (going_stopped _ definitions.first definitions.count g l q)
 
     pub arguments_ended : definitions.count ≤ i
-        → Checks (of_arguments refs types fields nodes literals variables arguments given definitions written) coercion.Value
+        → Checks (of_arguments refs types fields nodes literals variables arguments given definitions written) (Ok tt)
     arguments_ended l = arguments_made (going_ended _ definitions.first definitions.count g l)
 
 pub ruleset listing = (arguments_begin, going_again, arguments_stopped, arguments_ended, shut)

@@ -2,7 +2,7 @@
 use mathlib.Core.Path.{◌≡◌, refl}
 use mathlib.Core.Bool.{Bool, true, false}
 use mathlib.Core.List.{List, map}
-use Rattle.std.specs.Prelude.{Option, Some, None}
+use Rattle.std.specs.Prelude.{Option, Some, None, Ok, Err}
 use Prim.Native.Nat.{ℕ, zero, suc, ◌+◌, ◌-◌, ◌≤◌, ◌<◌}
 use native.Mathlib.Omega.{arith}
 use Rattle.rows.specs.Limits.{most_fields}
@@ -17,13 +17,13 @@ use Rattle.graphql.specs.Json.{array, object, items, members}
 use Rattle.graphql.specs.Lookup.{rows_from, rows_in, non_null}
 use Rattle.graphql.specs.Values.{opened, part_by_part}
 use Rattle.graphql.specs.Coerce.{coerce_items, input_field, input_fields}
-use Rattle.input_coercion.specs.Ends.{literal_fails, Checks}
+use Rattle.codes.specs.declared.outcome.Outcome.TheVariants as outcome
+use Rattle.input_coercion.specs.declared.check.Uncoerced.{Uncoerced}
+use Rattle.input_coercion.specs.declared.check.Uncoerced.TheVariants.{Stop}
+use Rattle.input_coercion.specs.Ends.{Coercion, literal_fails, Checks}
 use Rattle.input_coercion.specs.Coerced.{given_for, inside, of_part, of_value, of_items, of_field, of_fields}
-use Rattle.input_coercion.specs.declared.check.Coercion.{Coercion}
-use Rattle.input_coercion.specs.declared.check.Coercion.TheVariants as coercion
-use Rattle.input_coercion.proofs.Ends.{Stopped, value_pure, ends_made, fails}
+use Rattle.input_coercion.proofs.Ends.{value_pure, ends_made, fails}
 use Rattle.input_coercion.proofs.Going.{each, Going, going_begin, going_stopped, going_ended}
-use Rattle.input_coercion.proofs.Leaves.{not_found, is_found_lem}
 
 module _ (refs types fields nodes literals variables : List ℕ) where
   -- ---- the items of a list
@@ -46,19 +46,19 @@ module _ (refs types fields nodes literals variables : List ℕ) where
       ends = λ pool names p. ends_made p (each (of_value refs types fields nodes literals variables (room - 1) inner) rows pool names p) (λ js. array (items js)) r (q.ends pool names p);
     })
 
-    pub items_full : (rows : List ℕ) → room ≡ 0 → Checks (of_items refs types fields nodes literals variables room inner rows) coercion.TooFar
+    pub items_full : (rows : List ℕ) → room ≡ 0 → Checks (of_items refs types fields nodes literals variables room inner rows) (Err (Stop outcome.TooFar))
     unfolding of_items coerce_items opened
     items_full rows z = rw z (record { ends = λ pool names p c. refl })
 
     module _ (rows : Range) (z : room ≡ 0 → ⊥) {i : ℕ}
         (g : Going (of_value refs types fields nodes literals variables (room - 1) inner) rows.first rows.count i) where
-      pub items_stopped : {r : Coercion} → i < rows.count
-          → Checks (of_value refs types fields nodes literals variables (room - 1) inner (rows.first + i)) r → Stopped r
-          → Checks (of_items refs types fields nodes literals variables room inner (rows_in rows)) r
+      pub items_stopped : {e : Uncoerced} → i < rows.count
+          → Checks (of_value refs types fields nodes literals variables (room - 1) inner (rows.first + i)) (Err e)
+          → Checks (of_items refs types fields nodes literals variables room inner (rows_in rows)) (Err e)
       unfolding rows_in
-      items_stopped l q s = items_made (rows_from rows.first rows.count) z (going_stopped _ rows.first rows.count g l q s)
+      items_stopped l q = items_made (rows_from rows.first rows.count) z (going_stopped _ rows.first rows.count g l q)
 
-      pub items_ended : rows.count ≤ i → Checks (of_items refs types fields nodes literals variables room inner (rows_in rows)) coercion.Value
+      pub items_ended : rows.count ≤ i → Checks (of_items refs types fields nodes literals variables room inner (rows_in rows)) (Ok tt)
       unfolding rows_in
       items_ended l = items_made (rows_from rows.first rows.count) z (going_ended _ rows.first rows.count g l)
 
@@ -69,7 +69,7 @@ module _ (refs types fields nodes literals variables : List ℕ) where
     pub field_given : {literal : ℕ} {r : Coercion} → found ≡ Some literal → Checks (of_value refs types fields nodes literals variables room def.ty literal) r
         → Checks (of_field refs types fields nodes literals variables room row given field) r
     unfolding of_field input_field inside of_value
-    field_given {r = r'} h q = record { ends = λ pool names p. rw (is_found_lem (given_for fields literals given field) e h, ← d) (ends_made p _ Some r' (q.ends pool names p)) }
+    field_given {r = r'} h q = record { ends = λ pool names p. rw (← e, h, ← d) (ends_made p _ Some r' (q.ends pool names p)) }
 
     module _ (h : found ≡ None) where
       pub field_default_lem : {default : ℕ} {r : Coercion} → def.default ≡ Some default → Checks (of_part literals room default) r
@@ -77,19 +77,19 @@ module _ (refs types fields nodes literals variables : List ℕ) where
       unfolding of_field input_field of_part
       field_default_lem {default = default'} {r = r'} k q =
           let s : suc room - 1 ≡ room = omega arith in
-          record { ends = λ pool names p. rw (not_found (given_for fields literals given field) e h, ← d, k, s) (ends_made p (part_by_part pool names literals room default') Some r' (q.ends pool names p)) }
+          record { ends = λ pool names p. rw (← e, h, ← d, k, s) (ends_made p (part_by_part pool names literals room default') Some r' (q.ends pool names p)) }
 
       module _ {b : Bool} (k : def.default ≡ None) (g : b ≡ non_null refs def.ty) where
         pub field_missing : {r : Coercion} → b ≡ true → r ≡ literal_fails literals error.MissingInputField row
             → Checks (of_field refs types fields nodes literals variables room row given field) r
         unfolding of_field input_field when place_of
         field_missing t f = record {
-          ends = λ pool names p. rw (not_found (given_for fields literals given field) e h, ← d, k, ← d, ← g, t, f) (fails literals error.MissingInputField row p refl);
+          ends = λ pool names p. rw (← e, h, ← d, k, ← d, ← g, t, f) (fails literals error.MissingInputField row p refl);
         }
 
-        pub field_absent : b ≡ false → Checks (of_field refs types fields nodes literals variables room row given field) coercion.Value
+        pub field_absent : b ≡ false → Checks (of_field refs types fields nodes literals variables room row given field) (Ok tt)
         unfolding of_field input_field when
-        field_absent t = record { ends = λ pool names p. rw (not_found (given_for fields literals given field) e h, ← d, k, ← d, ← g, t) (value_pure None) }
+        field_absent t = record { ends = λ pool names p. rw (← e, h, ← d, k, ← d, ← g, t) (value_pure None) }
 
   -- ---- the fields of an input object
 
@@ -115,7 +115,7 @@ module _ (refs types fields nodes literals variables : List ℕ) where
       ends = λ pool names p. ends_made p (each (of_field refs types fields nodes literals variables (room - 1) row given) declared pool names p) (λ js. object (members (keys_of pool names declared) js)) r (q.ends pool names p);
     })
 
-    pub fields_full : (declared : List ℕ) → room ≡ 0 → Checks (of_fields refs types fields nodes literals variables room row given declared) coercion.TooFar
+    pub fields_full : (declared : List ℕ) → room ≡ 0 → Checks (of_fields refs types fields nodes literals variables room row given declared) (Err (Stop outcome.TooFar))
     unfolding of_fields input_fields opened
     fields_full declared z = rw z (record { ends = λ pool names p c. refl })
 
@@ -125,12 +125,12 @@ module _ (refs types fields nodes literals variables : List ℕ) where
 
     module _ (declared : Range) (z : room ≡ 0 → ⊥) {i : ℕ}
         (g : Going (of_field refs types fields nodes literals variables (room - 1) row given) declared.first declared.count i) where
-      pub fields_stopped : {r : Coercion} → i < declared.count
-          → Checks (of_field refs types fields nodes literals variables (room - 1) row given (declared.first + i)) r → Stopped r
-          → Checks (of_fields refs types fields nodes literals variables room row given (rows_in declared)) r
+      pub fields_stopped : {e : Uncoerced} → i < declared.count
+          → Checks (of_field refs types fields nodes literals variables (room - 1) row given (declared.first + i)) (Err e)
+          → Checks (of_fields refs types fields nodes literals variables room row given (rows_in declared)) (Err e)
       unfolding rows_in
-      fields_stopped l q s = fields_made (rows_from declared.first declared.count) z (going_stopped _ declared.first declared.count g l q s)
+      fields_stopped l q = fields_made (rows_from declared.first declared.count) z (going_stopped _ declared.first declared.count g l q)
 
-      pub fields_ended : declared.count ≤ i → Checks (of_fields refs types fields nodes literals variables room row given (rows_in declared)) coercion.Value
+      pub fields_ended : declared.count ≤ i → Checks (of_fields refs types fields nodes literals variables room row given (rows_in declared)) (Ok tt)
       unfolding rows_in
       fields_ended l = fields_made (rows_from declared.first declared.count) z (going_ended _ declared.first declared.count g l)

@@ -1,4 +1,5 @@
 -- A loop over rows whose runs go in order: what those that are left end with, all end with. Assumes nothing.
+use Rattle.std.specs.Prelude.{Ok, Err}
 use mathlib.Core.Path.{◌≡◌}
 use mathlib.Core.List.{List, ◌∷◌}
 use Prim.Native.Nat.{ℕ, suc, ◌+◌, ◌-◌, ◌≤◌, ◌<◌}
@@ -6,10 +7,9 @@ use native.Mathlib.Nat.{add-zero, sub-zero}
 use native.Mathlib.Omega.{arith}
 use Rattle.graphql.specs.Run.{in_order}
 use Rattle.graphql.specs.Lookup.{rows_from}
-use Rattle.input_coercion.specs.Ends.{Coercing, Checks}
-use Rattle.input_coercion.specs.declared.check.Coercion.{Coercion}
-use Rattle.input_coercion.specs.declared.check.Coercion.TheVariants as coercion
-use Rattle.input_coercion.proofs.Ends.{Stopped, ends_none, ends_more, ends_here}
+use Rattle.input_coercion.specs.Ends.{Coercion, Coercing, Checks}
+use Rattle.input_coercion.specs.declared.check.Uncoerced.{Uncoerced}
+use Rattle.input_coercion.proofs.Ends.{ends_none, ends_more, ends_here}
 
 -- the runs of these rows
 unfoldable pub each : {A : Type 0} → (ℕ → Coercing A) → List ℕ → Coercing (List A)
@@ -35,25 +35,24 @@ module _ {A : Type 0} (run : ℕ → Coercing A) (first count : ℕ) where
       let t : first + (i + 1) ≡ suc (first + i) = omega arith in
       rw (s, t)
 
-  module _ {i : ℕ} {r : Coercion} (g : Going i) (l : i < count) (q : Checks (run (first + i)) r) where
-    pub going_again : r ≡ coercion.Value → Going (i + 1)
-    unfolding each
-    going_again e = record {
-      below = omega arith;
-      words = g.words;
-      left = λ s t. g.left s (rw (next l) (record {
-        ends = λ pool names p. ends_more p (λ row. run row pool names p) (first + i) (rest (i + 1)) s (rw e at (q.ends pool names p)) (t.ends pool names p);
-      }));
-    }
+  pub going_again : {i : ℕ} → Going i → i < count → Checks (run (first + i)) (Ok tt) → Going (i + 1)
+  unfolding each
+  going_again {i} g l q = record {
+    below = omega arith;
+    words = g.words;
+    left = λ s t. g.left s (rw (next l) (record {
+      ends = λ pool names p. ends_more p (λ row. run row pool names p) (first + i) (rest (i + 1)) s (q.ends pool names p) (t.ends pool names p);
+    }));
+  }
 
-    pub going_stopped : Stopped r → Checks (each run (rows_from first count)) r
-    unfolding each
-    going_stopped s = g.left r (rw (next l) (record {
-      ends = λ pool names p. ends_here p (λ row. run row pool names p) (first + i) (rest (i + 1)) r s (q.ends pool names p);
-    }))
+  pub going_stopped : {i : ℕ} {e : Uncoerced} → Going i → i < count → Checks (run (first + i)) (Err e) → Checks (each run (rows_from first count)) (Err e)
+  unfolding each
+  going_stopped {i} {e} g l q = g.left (Err e) (rw (next l) (record {
+    ends = λ pool names p. ends_here p (λ row. run row pool names p) (first + i) (rest (i + 1)) e (q.ends pool names p);
+  }))
 
-  pub going_ended : {i : ℕ} → Going i → count ≤ i → Checks (each run (rows_from first count)) coercion.Value
+  pub going_ended : {i : ℕ} → Going i → count ≤ i → Checks (each run (rows_from first count)) (Ok tt)
   unfolding each rows_from
   going_ended {i} g l =
       let z : count - i ≡ 0 = omega arith in
-      g.left coercion.Value (rw z (record { ends = λ pool names p. ends_none p (λ row. run row pool names p) }))
+      g.left (Ok tt) (rw z (record { ends = λ pool names p. ends_none p (λ row. run row pool names p) }))

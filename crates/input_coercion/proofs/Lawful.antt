@@ -1,5 +1,6 @@
 -- In lawful tables the parts of a literal and the fields of a type are few, and a node's value is there: the parts of a node come later than it,
 -- so that no value is deeper than there are nodes. Assumes nothing.
+use Rattle.std.specs.Prelude.{Ok}
 use mathlib.Core.Path.{◌≡◌}
 use mathlib.Core.Bool.{true, false, ◌&&◌, ◌||◌}
 use mathlib.Core.List.{List, []}
@@ -33,7 +34,6 @@ use Rattle.graphql.specs.Values.{opened, array_of, object_of, value_of, node_val
 use Rattle.graphql.specs.Values as defined
 use Rattle.input_coercion.specs.Ends.{Valued}
 use Rattle.input_coercion.specs.Coerced.{Parted, Valuable, Coercible}
-use Rattle.input_coercion.specs.declared.check.Coercion.TheVariants as coercion
 use Rattle.input_coercion.proofs.Ends.{value_pure, ends_made, ends_none, ends_more}
 
 -- ---- ranges
@@ -83,7 +83,7 @@ all_valued : {A : Type 0} (run : ℕ → M A) (first n : ℕ) → ((part : ℕ) 
 unfolding rows_from
 all_valued run first zero h = ends_none [] run
 all_valued run first (suc n) h =
-    ends_more [] run first (rows_from (suc first) n) coercion.Value (h first (omega arith) (omega arith))
+    ends_more [] run first (rows_from (suc first) n) (Ok tt) (h first (omega arith) (omega arith))
     (all_valued run (suc first) n (λ part l m. h part (omega arith) (omega arith)))
 
 module _ (pool nodes : List ℕ) (room : ℕ) (inside : ℕ → M Json) (lent : List ℕ) (count row : ℕ) (below : (part : ℕ) → row < part → Valued (inside part)) where
@@ -100,8 +100,8 @@ module _ (pool nodes : List ℕ) (room : ℕ) (inside : ℕ → M Json) (lent : 
   node_valued (node.Negative low high) h = value_pure _
   node_valued (node.Float text) h = value_pure _
   node_valued (node.String text) h = value_pure _
-  node_valued (node.Array rows) h = ends_made [] _ _ coercion.Value (parts_valued rows h)
-  node_valued (node.Object rows) h = ends_made [] _ _ coercion.Value (parts_valued rows h)
+  node_valued (node.Array rows) h = ends_made [] _ _ (Ok tt) (parts_valued rows h)
+  node_valued (node.Object rows) h = ends_made [] _ _ (Ok tt) (parts_valued rows h)
   node_valued node.Unknown h = value_pure _
 
 -- ---- the tables

@@ -28,21 +28,6 @@ use Rattle.input_coercion.specs.declared.check.Shape.TheVariants as shape
 use Rattle.input_coercion.specs.declared.check.Form.TheVariants as form
 use Rattle.input_coercion.specs.contracts.check.Shape.{the_type as shape_type}
 
--- what was looked for is there or not
-pub not_found : (o : Option ℕ) {found : Option ℕ} → found ≡ o → found ≡ None → o ≡ None
-not_found o e h = go o (sym h ∙ e)
-  where
-    go : (o : Option ℕ) → None ≡ o → o ≡ None
-    go None h = refl
-    go (Some f) h = absurd (let z : ◌≡◌ {A = ℕ} 0 1 = cc in omega arith)
-
-pub is_found_lem : (o : Option ℕ) {found : Option ℕ} {row : ℕ} → found ≡ o → found ≡ Some row → o ≡ Some row
-is_found_lem o {row = row} e h = go o (sym h ∙ e)
-  where
-    go : (o : Option ℕ) → Some row ≡ o → o ≡ Some row
-    go None h = absurd (let z : ◌≡◌ {A = ℕ} 0 1 = cc in omega arith)
-    go (Some f) h = let s : f ≡ row = cc in rw s
-
 -- ---- a variable that is null
 
 abbrev others : List ℕ

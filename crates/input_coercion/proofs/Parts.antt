@@ -1,6 +1,8 @@
 -- A literal that converts part by part, way by way: what the function knows where it returns is how the definition ends there. Assumes nothing.
+use Rattle.std.specs.Prelude.{Ok, Err}
 use mathlib.Core.Path.{◌≡◌, refl}
 use mathlib.Core.List.{List, [], ◌∷◌}
+use mathlib.Core.Logic.{◌⊎◌, inl, inr}
 use Prim.Native.Nat.{ℕ, zero, suc, ◌+◌, ◌-◌, ◌≤◌, ◌<◌}
 use native.Mathlib.Omega.{arith}
 use types.Run.{miss}
@@ -17,11 +19,12 @@ use Rattle.graphql.specs.Run.{Path, M, pure, halt, onward, ◌>>=◌}
 use Rattle.graphql.specs.Json.{Json}
 use Rattle.graphql.specs.Lookup.{rows_from, rows_in}
 use Rattle.graphql.specs.Values.{opened, array_of, object_of, literal_form, parts_of, part_by_part}
-use Rattle.input_coercion.specs.Ends.{Valued, Ends, Checks}
+use Rattle.codes.specs.declared.outcome.Outcome.TheVariants as outcome
+use Rattle.input_coercion.specs.declared.check.Uncoerced.{Uncoerced}
+use Rattle.input_coercion.specs.declared.check.Uncoerced.TheVariants.{Stop}
+use Rattle.input_coercion.specs.Ends.{Coercion, Valued, Ends, Checks}
 use Rattle.input_coercion.specs.Coerced.{Parted, of_part, part_inside, of_parts}
-use Rattle.input_coercion.specs.declared.check.Coercion.{Coercion}
-use Rattle.input_coercion.specs.declared.check.Coercion.TheVariants as coercion
-use Rattle.input_coercion.proofs.Ends.{Stopped, value_pure, ends_made}
+use Rattle.input_coercion.proofs.Ends.{value_pure, ends_made}
 use Rattle.input_coercion.proofs.Going.{each, Going, going_begin, going_again, going_stopped, going_ended}
 
 -- a container ends as its parts do, whatever is made of their values
@@ -67,40 +70,36 @@ module _ (literals pool names : List ℕ) (room : ℕ) where
       go (suc n) = refl
 
 module _ (literals : List ℕ) (room row : ℕ) {l : Literal} (e : l ≡ literal_at literals row) where
-  pub part_list : {rows : Range} {r : Coercion} → l ≡ literal.List rows → Checks (of_parts literals room rows) r → Checks (of_part literals room row) r
-  unfolding of_part of_parts parts_of array_of
-  part_list {r = r'} h q = record {
+  pub part_opened : {rows : Range} {r : Coercion} → (l ≡ literal.List rows) ⊎ (l ≡ literal.Object rows)
+      → Checks (of_parts literals room rows) r → Checks (of_part literals room row) r
+  unfolding of_part of_parts parts_of array_of object_of
+  part_opened {r = r'} (inl h) q = record {
+    ends = λ pool names p. rw (by_literal literals pool names room row, ← e, h) (opened_made p room _ _ r' (q.ends pool names p));
+  }
+  part_opened {r = r'} (inr h) q = record {
     ends = λ pool names p. rw (by_literal literals pool names room row, ← e, h) (opened_made p room _ _ r' (q.ends pool names p));
   }
 
-  pub part_object : {rows : Range} {r : Coercion} → l ≡ literal.Object rows → Checks (of_parts literals room rows) r → Checks (of_part literals room row) r
-  unfolding of_part of_parts parts_of object_of
-  part_object {r = r'} h q = record {
-    ends = λ pool names p. rw (by_literal literals pool names room row, ← e, h) (opened_made p room _ _ r' (q.ends pool names p));
-  }
-
-  pub part_variable : {name : ℕ} → l ≡ literal.Variable name → Checks (of_part literals room row) coercion.VariableInLiteral
+  pub part_variable : {name : ℕ} → l ≡ literal.Variable name → Checks (of_part literals room row) (Err (Stop outcome.VariableInLiteral))
   unfolding of_part parts_of
   part_variable h = record { ends = λ pool names p c. rw (by_literal literals pool names room row, ← e, h) }
 
-  pub part_plain : Among plains (tag_of literal_type l) → Checks (of_part literals room row) coercion.Value
+  pub part_plain : Among plains (tag_of literal_type l) → Checks (of_part literals room row) (Ok tt)
   unfolding of_part
   part_plain o = record {
     ends = λ pool names p. rw (by_literal literals pool names room row, ← e) (plain_valued literals pool names room (part_inside literals room pool names) l o);
   }
 
-  pub list_within : {rows : Range} → Parted literals → l ≡ literal.List rows → rows.first + rows.count ≤ most_literals
+  pub parts_within : {rows : Range} → Parted literals → (l ≡ literal.List rows) ⊎ (l ≡ literal.Object rows)
+      → rows.first + rows.count ≤ most_literals
   unfolding literal_form
-  list_within {rows} w h = w.lists row rows (rw (← e, h))
-
-  pub object_within : {rows : Range} → Parted literals → l ≡ literal.Object rows → rows.first + rows.count ≤ most_literals
-  unfolding literal_form
-  object_within {rows} w h = w.objects row rows (rw (← e, h))
+  parts_within {rows} w (inl h) = w.lists row rows (rw (← e, h))
+  parts_within {rows} w (inr h) = w.objects row rows (rw (← e, h))
 
 -- ---- the parts of a container
 
 module _ (literals : List ℕ) (room : ℕ) (rows : Range) where
-  pub parts_full : room ≡ 0 → Checks (of_parts literals room rows) coercion.TooFar
+  pub parts_full : room ≡ 0 → Checks (of_parts literals room rows) (Err (Stop outcome.TooFar))
   unfolding of_parts opened
   parts_full z = rw z (record { ends = λ pool names p c. refl })
 
@@ -116,11 +115,11 @@ module _ (literals : List ℕ) (room : ℕ) (rows : Range) where
   parts_begin w = going_begin (of_part literals (room - 1)) rows.first rows.count (omega arith)
 
   module _ (z : room ≡ 0 → ⊥) {i : ℕ} (g : Going (of_part literals (room - 1)) rows.first rows.count i) where
-    pub parts_stopped : {r : Coercion} → i < rows.count → Checks (of_part literals (room - 1) (rows.first + i)) r → Stopped r
-        → Checks (of_parts literals room rows) r
-    parts_stopped l q s = rw (parts_opened z) (going_stopped (of_part literals (room - 1)) rows.first rows.count g l q s)
+    pub parts_stopped : {e : Uncoerced} → i < rows.count → Checks (of_part literals (room - 1) (rows.first + i)) (Err e)
+        → Checks (of_parts literals room rows) (Err e)
+    parts_stopped l q = rw (parts_opened z) (going_stopped (of_part literals (room - 1)) rows.first rows.count g l q)
 
-    pub parts_ended : rows.count ≤ i → Checks (of_parts literals room rows) coercion.Value
+    pub parts_ended : rows.count ≤ i → Checks (of_parts literals room rows) (Ok tt)
     parts_ended l = rw (parts_opened z) (going_ended (of_part literals (room - 1)) rows.first rows.count g l)
 
-pub ruleset parting = (part_list, part_object, part_variable, part_plain, list_within, object_within, parts_full, parts_begin, going_again, parts_stopped, parts_ended, shut)
+pub ruleset parting = (part_opened, part_variable, part_plain, parts_within, parts_full, parts_begin, going_again, parts_stopped, parts_ended, shut)

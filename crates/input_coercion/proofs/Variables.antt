@@ -3,19 +3,16 @@ use mathlib.Core.Path.{◌≡◌, refl}
 use mathlib.Core.Bool.{Bool, true, false}
 use mathlib.Core.List.{List}
 use Prim.Native.Nat.{ℕ}
-use Rattle.std.specs.Prelude.{Option, Some, None}
+use Rattle.std.specs.Prelude.{Option, Some, None, Ok}
 use Rattle.codes.specs.declared.errors.FieldError.TheVariants as error
 use Rattle.graphql.specs.Run.{when}
 use Rattle.codes.specs.Errors.{place_of}
 use Rattle.graphql.specs.Json.{null}
 use Rattle.graphql.specs.Lookup.{non_null, variable_named}
 use Rattle.graphql.specs.Coerce.{null_against, coerce_variable}
-use Rattle.input_coercion.specs.Ends.{literal_fails}
+use Rattle.input_coercion.specs.Ends.{Coercion, literal_fails}
 use Rattle.input_coercion.specs.Coerced.{Valuable, of_variable, ChecksInner}
-use Rattle.input_coercion.specs.declared.check.Coercion.{Coercion}
-use Rattle.input_coercion.specs.declared.check.Coercion.TheVariants as coercion
 use Rattle.input_coercion.proofs.Ends.{value_pure, fails}
-use Rattle.input_coercion.proofs.Leaves.{not_found, is_found_lem}
 
 module _ (refs nodes literals variables : List ℕ) (ty row name : ℕ) {found : Option ℕ} (e : found ≡ (variable_named variables name)) {b : Bool} where
   module _ (h : found ≡ None) (g : b ≡ non_null refs ty) where
@@ -24,13 +21,13 @@ module _ (refs nodes literals variables : List ℕ) (ty row name : ℕ) {found :
     unfolding of_variable coerce_variable when place_of
     inner_missing t f = record {
       checks = λ types fields. record {
-        ends = λ pool names p. rw (not_found (variable_named variables name) e h, ← g, t, f) (fails literals error.MissingVariable row p refl);
+        ends = λ pool names p. rw (← e, h, ← g, t, f) (fails literals error.MissingVariable row p refl);
       };
     }
 
-    pub inner_absent : b ≡ false → ChecksInner refs nodes literals variables ty row name coercion.Value
+    pub inner_absent : b ≡ false → ChecksInner refs nodes literals variables ty row name (Ok tt)
     unfolding of_variable coerce_variable when
-    inner_absent t = record { checks = λ types fields. record { ends = λ pool names p. rw (not_found (variable_named variables name) e h, ← g, t) (value_pure null) } }
+    inner_absent t = record { checks = λ types fields. record { ends = λ pool names p. rw (← e, h, ← g, t) (value_pure null) } }
 
   module _ {v : ℕ} (h : found ≡ Some v) (g : b ≡ null_against refs nodes variables ty v) where
     pub inner_null : {r : Coercion} → b ≡ true → r ≡ literal_fails literals error.NullVariable row
@@ -38,12 +35,12 @@ module _ (refs nodes literals variables : List ℕ) (ty row name : ℕ) {found :
     unfolding of_variable coerce_variable when place_of
     inner_null t f = record {
       checks = λ types fields. record {
-        ends = λ pool names p. rw (is_found_lem (variable_named variables name) e h, ← g, t, f) (fails literals error.NullVariable row p refl);
+        ends = λ pool names p. rw (← e, h, ← g, t, f) (fails literals error.NullVariable row p refl);
       };
     }
 
-    pub inner_value : Valuable nodes variables → b ≡ false → ChecksInner refs nodes literals variables ty row name coercion.Value
+    pub inner_value : Valuable nodes variables → b ≡ false → ChecksInner refs nodes literals variables ty row name (Ok tt)
     unfolding of_variable coerce_variable when
-    inner_value w t = record { checks = λ types fields. record { ends = λ pool names p. rw (is_found_lem (variable_named variables name) e h, ← g, t) (w.values pool v) } }
+    inner_value w t = record { checks = λ types fields. record { ends = λ pool names p. rw (← e, h, ← g, t) (w.values pool v) } }
 
 pub ruleset inner = (inner_missing, inner_absent, inner_null, inner_value)

@@ -2,7 +2,7 @@
 use mathlib.Core.Path.{◌≡◌, refl}
 use mathlib.Core.Bool.{Bool, true, false}
 use mathlib.Core.List.{List, [], ◌∷◌}
-use Rattle.std.specs.Prelude.{Option, Some, None}
+use Rattle.std.specs.Prelude.{Option, Some, None, Ok}
 use Prim.Native.Nat.{ℕ, zero, suc, ◌+◌, ◌≤◌}
 use native.Mathlib.Omega.{arith}
 use types.Run.{miss}
@@ -26,17 +26,14 @@ use Rattle.graphql.specs.Lookup.{rows_in, non_null, type_named}
 use Rattle.graphql.specs.Values.{literal_form}
 use Rattle.graphql.specs.Coerce.{is_input_object, unknown_key, known_object, input_object, coerce_named, coerce_shape, coerce_literal, coerce_argument_value}
 use Rattle.lookup.specs.Found.{is_found}
-use Rattle.input_coercion.specs.Ends.{literal_fails, Ends, Checks}
+use Rattle.input_coercion.specs.Ends.{Coercion, literal_fails, Ends, Checks}
 use Rattle.input_coercion.specs.Coerced.{FormAt, Listable, ItemsAt, Coercible, inside, of_part, of_value, of_variable, of_items, of_fields, of_object, of_named, of_shape, ChecksInner}
-use Rattle.input_coercion.specs.declared.check.Coercion.{Coercion}
-use Rattle.input_coercion.specs.declared.check.Coercion.TheVariants as coercion
 use Rattle.input_coercion.specs.declared.check.Shape.{Shape}
 use Rattle.input_coercion.specs.declared.check.Shape.TheVariants as shape
 use Rattle.input_coercion.specs.declared.check.Form.{Form}
 use Rattle.input_coercion.specs.declared.check.Form.TheVariants as form
 use Rattle.input_coercion.specs.contracts.check.Shape.{the_type as shape_type}
 use Rattle.input_coercion.proofs.Ends.{value_pure, fails}
-use Rattle.input_coercion.proofs.Leaves.{not_found, is_found_lem}
 use Rattle.input_coercion.proofs.Going.{going_begin, going_again}
 use Rattle.input_coercion.proofs.Fields.{items_full, items_stopped, items_ended, field_given, field_default_lem, field_missing, field_absent, fields_full, fields_begin, fields_stopped, fields_ended}
 
@@ -125,18 +122,18 @@ module _ (refs types fields nodes literals variables : List ℕ) (room : ℕ) wh
     pub named_undefined : found ≡ None → r ≡ literal_fails literals error.UndefinedInputType row
         → Checks (of_named refs types fields nodes literals variables room row s name) r
     unfolding of_named coerce_named place_of
-    named_undefined h f = record { ends = λ pool names p. rw (not_found (type_named types name) e h, f) (fails literals error.UndefinedInputType row p refl) }
+    named_undefined h f = record { ends = λ pool names p. rw (← e, h, f) (fails literals error.UndefinedInputType row p refl) }
 
     module _ {type : ℕ} {def : TypeDef} (h : found ≡ Some type) (d : def ≡ type_at types type) where
       pub named_other : Among other_kinds (tag_of kind_type def.kind) → Checks (of_part literals room row) r
           → Checks (of_named refs types fields nodes literals variables room row s name) r
       unfolding of_named coerce_named when of_part
-      named_other o q = record { ends = λ pool names p. rw (is_found_lem (type_named types name) e h, ← d, other_kind def.kind o) (q.ends pool names p) }
+      named_other o q = record { ends = λ pool names p. rw (← e, h, ← d, other_kind def.kind o) (q.ends pool names p) }
 
       pub named_object : def.kind ≡ kind.InputObject → Checks (of_object refs types fields nodes literals variables room type row s) r
           → Checks (of_named refs types fields nodes literals variables room row s name) r
       unfolding of_named coerce_named when is_input_object of_object
-      named_object k q = record { ends = λ pool names p. rw (is_found_lem (type_named types name) e h, ← d, k) (q.ends pool names p) }
+      named_object k q = record { ends = λ pool names p. rw (← e, h, ← d, k) (q.ends pool names p) }
 
   -- ---- any type
 
@@ -180,7 +177,7 @@ module _ (refs types fields nodes literals variables : List ℕ) (room : ℕ) wh
         ends = λ pool names p. rw (by_form ty row pool names p, e.is, h, ← g, t, k) (fails literals error.InnerNull row p refl);
       }
 
-      pub value_null : b ≡ false → Checks (of_value refs types fields nodes literals variables room ty row) coercion.Value
+      pub value_null : b ≡ false → Checks (of_value refs types fields nodes literals variables room ty row) (Ok tt)
       unfolding of_value coerce_literal when
       value_null t = record { ends = λ pool names p. rw (by_form ty row pool names p, e.is, h, ← g, t) (value_pure null) }
 

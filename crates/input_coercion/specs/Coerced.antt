@@ -15,12 +15,11 @@ use Rattle.graphql.specs.Lookup.{rows_in, find, type_named, variable_named}
 use Rattle.graphql.specs.Values.{opened, variable_value, LiteralForm, literal_form, part_by_part}
 use Rattle.graphql.specs.Values as defined
 use Rattle.graphql.specs.Coerce.{Arguments, items_of, coerce_variable, coerce_items, input_field, input_fields, input_object, coerce_named, coerce_shape, coerce_argument_value, default_argument, variable_argument, coerce_argument, coerce_argument_values}
-use Rattle.input_coercion.specs.declared.check.Coercion.{Coercion}
 use Rattle.input_coercion.specs.declared.check.Shape.{Shape}
 use Rattle.input_coercion.specs.declared.check.Shape.TheVariants as shape
 use Rattle.input_coercion.specs.declared.check.Form.{Form}
 use Rattle.input_coercion.specs.declared.check.Form.TheVariants as form
-use Rattle.input_coercion.specs.Ends.{Valued, Coercing, Checks}
+use Rattle.input_coercion.specs.Ends.{Coercion, Valued, Coercing, Checks}
 
 -- ---- What coercion tells apart in a literal
 

@@ -4,9 +4,10 @@ ghost use Rattle.rows.specs.Limits.{most_rows};
 ghost use Rattle.graphql.specs.Lookup.{rows_in};
 ghost use Rattle.input_coercion.specs.Ends.{argument_fails, Checks};
 ghost use Rattle.input_coercion.specs.Coerced.{Parted, Valuable, Coercible, given_named, of_argument, of_arguments, ChecksDefault, ChecksVariable};
+ghost use Rattle.tables.specs.Tables.{lent};
 
 use crate::check::{
-    Coercion, Failure, Form, check_part_by_part, coerce_argument_value, literal_form, null_against,
+    Failure, Form, Uncoerced, check_part_by_part, coerce_argument_value, literal_form, null_against,
 };
 use codes::errors::FieldError;
 use lookup::find::find_word;
@@ -15,6 +16,7 @@ use rows::columns::GIVEN_NAME;
 use rows::document::{GIVEN_WIDTH, given_at};
 use rows::layout::Range;
 use rows::schema::{Argument, argument_at};
+use rows::tables::Tables;
 
 // "33 open containers in a leaf or literal"
 pub const MOST_OPEN: u32 = 32;
@@ -28,133 +30,81 @@ pub fn given_argument(given: &[u32], written: Range, name: u32) -> Option<u32>
 }
 
 // An argument fails at its definition's place.
-fn fail_argument(error: FieldError, argument: Argument) -> Coercion
+fn fail_argument(error: FieldError, argument: Argument) -> Result<(), Uncoerced>
     ensures { result ≡ argument_fails error argument }
 {
-    Coercion::Failed(Failure {
-        error: error,
+    Err(Uncoerced::Failed(Failure {
+        error,
         place: argument.place,
-    })
+    }))
 }
 
 // An argument that is not given, or given as an absent variable: its default, or missing.
-fn default_argument(type_refs: &[u32], literals: &[u32], argument: Argument) -> Coercion
-    requires { Parted literals.now }
-    ensures { ChecksDefault type_refs.now literals.now argument result }
+fn default_argument(tables: &Tables, argument: Argument) -> Result<(), Uncoerced>
+    requires { let t = lent tables.now in Parted t.literals }
+    ensures { let t = lent tables.now in ChecksDefault t.refs t.literals argument result }
 {
-    let default = argument.default;
-    match default {
-        Some(value) => check_part_by_part(literals, MOST_OPEN, value),
+    match argument.default {
+        Some(value) => check_part_by_part(tables.literals, MOST_OPEN, value),
         None => {
-            if is_non_null(type_refs, argument.ty) {
+            if is_non_null(tables.type_refs, argument.ty) {
                 return fail_argument(FieldError::MissingArgument, argument);
             }
-            Coercion::Value
+            Ok(())
         }
     }
 }
 
-fn variable_argument(
-    type_refs: &[u32],
-    nodes: &[u32],
-    literals: &[u32],
-    variables: &[u32],
-    argument: Argument,
-    name: u32,
-) -> Coercion
-    requires parted { Parted literals.now }
-    requires valuable { Valuable nodes.now variables.now }
-    ensures { ChecksVariable type_refs.now nodes.now literals.now variables.now argument name result }
+fn variable_argument(tables: &Tables, argument: Argument, name: u32) -> Result<(), Uncoerced>
+    requires parted { let t = lent tables.now in Parted t.literals }
+    requires valuable { let t = lent tables.now in Valuable t.nodes t.variables }
+    ensures { let t = lent tables.now in ChecksVariable t.refs t.nodes t.literals t.variables argument name result }
 {
-    let Some(variable) = variable_named(variables, name) else {
-        return default_argument(type_refs, literals, argument);
+    let Some(variable) = variable_named(tables.variables, name) else {
+        return default_argument(tables, argument);
     };
-    if null_against(type_refs, nodes, variables, argument.ty, variable) {
+    if null_against(tables, argument.ty, variable) {
         return fail_argument(FieldError::NullArgument, argument);
     }
-    Coercion::Value
+    Ok(())
 }
 
-fn coerce_argument(
-    type_refs: &[u32],
-    types: &[u32],
-    fields: &[u32],
-    arguments: &[u32],
-    given: &[u32],
-    nodes: &[u32],
-    literals: &[u32],
-    variables: &[u32],
-    written: Range,
-    row: u32,
-) -> Coercion
-    requires coercible { Coercible types.now nodes.now literals.now variables.now }
+fn coerce_argument(tables: &Tables, written: Range, row: u32) -> Result<(), Uncoerced>
+    requires coercible { let t = lent tables.now in Coercible t.types t.nodes t.literals t.variables }
     requires count_bound { written.first + written.count ≤ most_rows }
-    ensures { Checks (of_argument type_refs.now types.now fields.now nodes.now literals.now variables.now arguments.now given.now written row) result }
+    ensures { let t = lent tables.now in Checks (of_argument t.refs t.types t.fields t.nodes t.literals t.variables t.arguments t.given written row) result }
 {
-    let argument = argument_at(arguments, row);
-    let Some(at) = given_argument(given, written, argument.name) else {
-        return default_argument(type_refs, literals, argument);
+    let argument = argument_at(tables.arguments, row);
+    let Some(at) = given_argument(tables.given, written, argument.name) else {
+        return default_argument(tables, argument);
     };
-    let value = given_at(given, at);
+    let value = given_at(tables.given, at);
     let literal = value.literal;
-    match literal_form(literals, literal) {
+    match literal_form(tables.literals, literal) {
         Form::Null => {
-            if is_non_null(type_refs, argument.ty) {
+            if is_non_null(tables.type_refs, argument.ty) {
                 return fail_argument(FieldError::NullArgument, argument);
             }
-            Coercion::Value
+            Ok(())
         }
-        Form::Variable(name) => variable_argument(
-            type_refs, nodes, literals, variables, argument, name,
-        ),
-        Form::Shaped(_) => coerce_argument_value(
-            type_refs,
-            types,
-            fields,
-            nodes,
-            literals,
-            variables,
-            MOST_OPEN,
-            argument.ty,
-            literal,
-        ),
+        Form::Variable(name) => variable_argument(tables, argument, name),
+        Form::Shaped(_) => coerce_argument_value(tables, MOST_OPEN, argument.ty, literal),
     }
 }
 
 pub fn coerce_argument_values(
-    type_refs: &[u32],
-    types: &[u32],
-    fields: &[u32],
-    arguments: &[u32],
-    given: &[u32],
-    nodes: &[u32],
-    literals: &[u32],
-    variables: &[u32],
+    tables: &Tables,
     definitions: Range,
     written: Range,
-) -> Coercion
-    requires coercible { Coercible types.now nodes.now literals.now variables.now }
+) -> Result<(), Uncoerced>
+    requires coercible { let t = lent tables.now in Coercible t.types t.nodes t.literals t.variables }
     requires count_bound { (definitions.first + definitions.count ≤ most_rows) × (written.first + written.count ≤ most_rows) }
-    ensures { Checks (of_arguments type_refs.now types.now fields.now nodes.now literals.now variables.now arguments.now given.now definitions written) result }
+    ensures { let t = lent tables.now in Checks (of_arguments t.refs t.types t.fields t.nodes t.literals t.variables t.arguments t.given definitions written) result }
 {
     let first = definitions.first;
     let count = definitions.count;
     for i in 0..count {
-        let argument = coerce_argument(
-            type_refs,
-            types,
-            fields,
-            arguments,
-            given,
-            nodes,
-            literals,
-            variables,
-            written,
-            first + i,
-        );
-        let Coercion::Value = argument else {
-            return argument;
-        };
+        coerce_argument(tables, written, first + i)?;
     }
-    Coercion::Value
+    Ok(())
 }

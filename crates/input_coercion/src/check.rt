@@ -1,4 +1,7 @@
 // A literal at a type: whether it can be coerced. `room` is how many containers may still be opened.
+//
+// What is needed of the tables, `Coercible`, is asked in each contract: as a ghost field of a struct over them it would have to be a fact with one
+// proof only, and the value that `Valuable` gives of each variable is none.
 ghost use Rattle.std.specs.Prelude.{◌≡◌, ◌+◌, ◌≤◌};
 ghost use Rattle.rows.specs.Limits.{most_literals, most_fields};
 ghost use Rattle.rows.specs.Schema.{type_at};
@@ -7,8 +10,10 @@ ghost use Rattle.graphql.specs.Coerce.{null_against, unknown_key};
 ghost use Rattle.lookup.specs.Found.{is_found};
 ghost use Rattle.input_coercion.specs.Ends.{literal_fails, Checks};
 ghost use Rattle.input_coercion.specs.Coerced.{FormAt, ItemsAt, Listable, Parted, Valuable, Coercible, of_part, of_parts, given_for, of_value, ChecksInner, of_items, of_field, of_fields, of_object, of_named, of_shape};
+ghost use Rattle.tables.specs.Tables.{lent};
 
 use codes::errors::FieldError;
+use codes::outcome::Outcome;
 use lookup::find::find_word;
 use lookup::named::{field_named, is_non_null, type_named, variable_named};
 use rows::columns::LITERAL_KEY;
@@ -17,6 +22,7 @@ use rows::json::{
 };
 use rows::layout::Range;
 use rows::schema::{TypeKind, TypeRef, field_at, type_at, type_ref_at};
+use rows::tables::Tables;
 
 // An error and its place.
 #[derive(Clone, Copy)]
@@ -25,97 +31,83 @@ pub struct Failure {
     pub place: u32,
 }
 
-// How a coercion ends: there is a value, or it fails; or a container more would be open than there is room for, or a variable was reached
-// in a literal that converts part by part.
+// Why there is no value: the coercion fails; or the run stops, as a container more would be open than there is room for, or a variable was
+// reached in a literal that converts part by part.
 #[derive(Clone, Copy)]
-pub enum Coercion {
-    Value,
+pub enum Uncoerced {
     Failed(Failure),
-    TooFar,
-    VariableInLiteral,
+    Stop(Outcome),
 }
 
 // A literal fails at its own place.
-fn fail_at(literals: &[u32], error: FieldError, row: u32) -> Coercion
+fn fail_at(literals: &[u32], error: FieldError, row: u32) -> Result<(), Uncoerced>
     ensures { result ≡ literal_fails literals.now error row }
 {
-    Coercion::Failed(Failure {
-        error: error,
+    Err(Uncoerced::Failed(Failure {
+        error,
         place: literal_place(literals, row),
-    })
+    }))
 }
 
 // Whether a variable's value is null where that may not be.
-pub fn null_against(type_refs: &[u32], nodes: &[u32], variables: &[u32], ty: u32, row: u32) -> bool
-    ensures { result ≡ null_against type_refs.now nodes.now variables.now ty row }
+pub fn null_against(tables: &Tables, ty: u32, row: u32) -> bool
+    ensures { let t = lent tables.now in result ≡ null_against t.refs t.nodes t.variables ty row }
 {
-    let variable = variable_at(variables, row);
-    match node_at(nodes, variable.node) {
-        Node::Null => is_non_null(type_refs, ty),
+    let variable = variable_at(tables.variables, row);
+    match node_at(tables.nodes, variable.node) {
+        Node::Null => is_non_null(tables.type_refs, ty),
         _ => false,
     }
 }
 
 // The parts of a list or an object, up to the first that has no value. Their keys do not matter here.
-#[cycle(check_part_by_part_check_parts)]
-fn check_parts(literals: &[u32], room: u32, rows: Range) -> Coercion
+#[cycle(convert)]
+fn check_parts(literals: &[u32], room: u32, rows: Range) -> Result<(), Uncoerced>
     requires parted { Parted literals.now }
     requires count_bound { rows.first + rows.count ≤ most_literals }
     ensures { Checks (of_parts literals.now room rows) result }
 {
     if room == 0 {
-        return Coercion::TooFar;
+        return Err(Uncoerced::Stop(Outcome::TooFar));
     }
     let first = rows.first;
     let count = rows.count;
     for i in 0..count {
-        let part = check_part_by_part(literals, room - 1, first + i);
-        let Coercion::Value = part else {
-            return part;
-        };
+        check_part_by_part(literals, room - 1, first + i)?;
     }
-    Coercion::Value
+    Ok(())
 }
 
 // A literal that converts part by part.
-#[cycle(check_part_by_part_check_parts)]
-pub fn check_part_by_part(literals: &[u32], room: u32, row: u32) -> Coercion
+#[cycle(convert)]
+pub fn check_part_by_part(literals: &[u32], room: u32, row: u32) -> Result<(), Uncoerced>
     requires { Parted literals.now }
     ensures { Checks (of_part literals.now room row) result }
 {
     match literal_at(literals, row) {
-        Literal::List(rows) => check_parts(literals, room, rows),
-        Literal::Object(rows) => check_parts(literals, room, rows),
-        Literal::Variable(_) => Coercion::VariableInLiteral,
-        _ => Coercion::Value,
+        Literal::List(rows) | Literal::Object(rows) => check_parts(literals, room, rows),
+        Literal::Variable(_) => Err(Uncoerced::Stop(Outcome::VariableInLiteral)),
+        _ => Ok(()),
     }
 }
 
 // A variable inside a list or an object.
-fn coerce_variable(
-    type_refs: &[u32],
-    nodes: &[u32],
-    literals: &[u32],
-    variables: &[u32],
-    ty: u32,
-    row: u32,
-    name: u32,
-) -> Coercion
-    requires { Valuable nodes.now variables.now }
-    ensures { ChecksInner type_refs.now nodes.now literals.now variables.now ty row name result }
+fn coerce_variable(tables: &Tables, ty: u32, row: u32, name: u32) -> Result<(), Uncoerced>
+    requires { let t = lent tables.now in Valuable t.nodes t.variables }
+    ensures { let t = lent tables.now in ChecksInner t.refs t.nodes t.literals t.variables ty row name result }
 {
-    match variable_named(variables, name) {
+    match variable_named(tables.variables, name) {
         None => {
-            if is_non_null(type_refs, ty) {
-                return fail_at(literals, FieldError::MissingVariable, row);
+            if is_non_null(tables.type_refs, ty) {
+                return fail_at(tables.literals, FieldError::MissingVariable, row);
             }
-            Coercion::Value
+            Ok(())
         }
         Some(variable) => {
-            if null_against(type_refs, nodes, variables, ty, variable) {
-                return fail_at(literals, FieldError::NullVariable, row);
+            if null_against(tables, ty, variable) {
+                return fail_at(tables.literals, FieldError::NullVariable, row);
             }
-            Coercion::Value
+            Ok(())
         }
     }
 }
@@ -162,279 +154,180 @@ pub fn items_of(row: u32, shape: Shape) -> Range
 }
 
 // The items of a list at the type of an item.
-#[cycle(coerce_argument_value_coerce_items_coerce_named_coerce_shape_input_field_input_fields_input_object)]
-fn coerce_items(
-    type_refs: &[u32],
-    types: &[u32],
-    fields: &[u32],
-    nodes: &[u32],
-    literals: &[u32],
-    variables: &[u32],
-    room: u32,
-    inner: u32,
-    rows: Range,
-) -> Coercion
-    requires coercible { Coercible types.now nodes.now literals.now variables.now }
+#[cycle(coerce)]
+fn coerce_items(tables: &Tables, room: u32, inner: u32, rows: Range) -> Result<(), Uncoerced>
+    requires coercible { let t = lent tables.now in Coercible t.types t.nodes t.literals t.variables }
     requires count_bound { rows.first + rows.count ≤ 4294967296 }
-    ensures { Checks (of_items type_refs.now types.now fields.now nodes.now literals.now variables.now room inner (rows_in rows)) result }
+    ensures { let t = lent tables.now in Checks (of_items t.refs t.types t.fields t.nodes t.literals t.variables room inner (rows_in rows)) result }
 {
     if room == 0 {
-        return Coercion::TooFar;
+        return Err(Uncoerced::Stop(Outcome::TooFar));
     }
     let first = rows.first;
     let count = rows.count;
     for i in 0..count {
-        let item = coerce_argument_value(
-            type_refs,
-            types,
-            fields,
-            nodes,
-            literals,
-            variables,
-            room - 1,
-            inner,
-            first + i,
-        );
-        let Coercion::Value = item else {
-            return item;
-        };
+        coerce_argument_value(tables, room - 1, inner, first + i)?;
     }
-    Coercion::Value
+    Ok(())
 }
 
 // The literal that an object literal gives for a field, if it gives one.
-pub fn given_for(fields: &[u32], literals: &[u32], given: Range, field: u32) -> Option<u32>
+pub fn given_for(tables: &Tables, given: Range, field: u32) -> Option<u32>
     requires { given.first + given.count ≤ most_literals }
-    ensures { result ≡ given_for fields.now literals.now (rows_in given) field }
+    ensures { let t = lent tables.now in result ≡ given_for t.fields t.literals (rows_in given) field }
 {
-    let def = field_at(fields, field);
-    find_word(literals, LITERAL_WIDTH, LITERAL_KEY, given, def.name)
+    let def = field_at(tables.fields, field);
+    find_word(tables.literals, LITERAL_WIDTH, LITERAL_KEY, given, def.name)
 }
 
 // An input field: as it is given, by its default, or missing. `row` is the whole object literal, and `room` is what is left inside it.
-#[cycle(coerce_argument_value_coerce_items_coerce_named_coerce_shape_input_field_input_fields_input_object)]
+#[cycle(coerce)]
 fn input_field(
-    type_refs: &[u32],
-    types: &[u32],
-    fields: &[u32],
-    nodes: &[u32],
-    literals: &[u32],
-    variables: &[u32],
+    tables: &Tables,
     room: u32,
     row: u32,
     given: Range,
     field: u32,
-) -> Coercion
-    requires coercible { Coercible types.now nodes.now literals.now variables.now }
+) -> Result<(), Uncoerced>
+    requires coercible { let t = lent tables.now in Coercible t.types t.nodes t.literals t.variables }
     requires count_bound { given.first + given.count ≤ most_literals }
-    ensures { Checks (of_field type_refs.now types.now fields.now nodes.now literals.now variables.now room row (rows_in given) field) result }
+    ensures { let t = lent tables.now in Checks (of_field t.refs t.types t.fields t.nodes t.literals t.variables room row (rows_in given) field) result }
 {
-    let def = field_at(fields, field);
+    let def = field_at(tables.fields, field);
     let ty = def.ty;
-    if let Some(literal) = given_for(fields, literals, given, field) {
-        return coerce_argument_value(
-            type_refs, types, fields, nodes, literals, variables, room, ty, literal,
-        );
+    if let Some(literal) = given_for(tables, given, field) {
+        return coerce_argument_value(tables, room, ty, literal);
     }
-    let default = def.default;
-    match default {
-        Some(value) => check_part_by_part(literals, room, value),
+    match def.default {
+        Some(value) => check_part_by_part(tables.literals, room, value),
         None => {
-            if is_non_null(type_refs, ty) {
-                return fail_at(literals, FieldError::MissingInputField, row);
+            if is_non_null(tables.type_refs, ty) {
+                return fail_at(tables.literals, FieldError::MissingInputField, row);
             }
-            Coercion::Value
+            Ok(())
         }
     }
 }
 
 // The fields of an input object type, in the type's order.
-#[cycle(coerce_argument_value_coerce_items_coerce_named_coerce_shape_input_field_input_fields_input_object)]
+#[cycle(coerce)]
 fn input_fields(
-    type_refs: &[u32],
-    types: &[u32],
-    fields: &[u32],
-    nodes: &[u32],
-    literals: &[u32],
-    variables: &[u32],
+    tables: &Tables,
     room: u32,
     row: u32,
     given: Range,
     declared: Range,
-) -> Coercion
-    requires coercible { Coercible types.now nodes.now literals.now variables.now }
+) -> Result<(), Uncoerced>
+    requires coercible { let t = lent tables.now in Coercible t.types t.nodes t.literals t.variables }
     requires count_bound { given.first + given.count ≤ most_literals }
     requires count_bound_2 { declared.first + declared.count ≤ most_fields }
-    ensures { Checks (of_fields type_refs.now types.now fields.now nodes.now literals.now variables.now room row (rows_in given) (rows_in declared)) result }
+    ensures { let t = lent tables.now in Checks (of_fields t.refs t.types t.fields t.nodes t.literals t.variables room row (rows_in given) (rows_in declared)) result }
 {
     if room == 0 {
-        return Coercion::TooFar;
+        return Err(Uncoerced::Stop(Outcome::TooFar));
     }
     let first = declared.first;
     let count = declared.count;
     for i in 0..count {
-        let field = input_field(
-            type_refs,
-            types,
-            fields,
-            nodes,
-            literals,
-            variables,
-            room - 1,
-            row,
-            given,
-            first + i,
-        );
-        let Coercion::Value = field else {
-            return field;
-        };
+        input_field(tables, room - 1, row, given, first + i)?;
     }
-    Coercion::Value
+    Ok(())
 }
 
 // Whether an object literal has a key that the type has no field for.
-fn has_unknown_key(types: &[u32], fields: &[u32], literals: &[u32], ty: u32, given: Range) -> bool
-    requires ty_bound { (type_at types.now ty).fields.first + (type_at types.now ty).fields.count ≤ most_fields }
+fn has_unknown_key(tables: &Tables, ty: u32, given: Range) -> bool
+    requires ty_bound { let t = lent tables.now in (type_at t.types ty).fields.first + (type_at t.types ty).fields.count ≤ most_fields }
     requires count_bound { given.first + given.count ≤ most_literals }
-    ensures { result ≡ is_found (unknown_key types.now fields.now literals.now ty (rows_in given)) }
+    ensures { let t = lent tables.now in result ≡ is_found (unknown_key t.types t.fields t.literals ty (rows_in given)) }
 {
     let first = given.first;
     let count = given.count;
     for i in 0..count {
-        let key = literal_key(literals, first + i);
-        let Some(_) = field_named(types, fields, ty, key) else {
+        let key = literal_key(tables.literals, first + i);
+        if field_named(tables, ty, key).is_none() {
             return true;
-        };
+        }
     }
     false
 }
 
 // An object literal at an input object type. An unknown key is found before anything about the values.
-#[cycle(coerce_argument_value_coerce_items_coerce_named_coerce_shape_input_field_input_fields_input_object)]
+#[cycle(coerce)]
 fn input_object(
-    type_refs: &[u32],
-    types: &[u32],
-    fields: &[u32],
-    nodes: &[u32],
-    literals: &[u32],
-    variables: &[u32],
+    tables: &Tables,
     room: u32,
     ty: u32,
     row: u32,
     shape: Shape,
-) -> Coercion
-    requires coercible { Coercible types.now nodes.now literals.now variables.now }
-    requires form_at { FormAt literals.now row (Form.Shaped shape) }
-    ensures { Checks (of_object type_refs.now types.now fields.now nodes.now literals.now variables.now room ty row shape) result }
+) -> Result<(), Uncoerced>
+    requires coercible { let t = lent tables.now in Coercible t.types t.nodes t.literals t.variables }
+    requires form_at { let t = lent tables.now in FormAt t.literals row (Form.Shaped shape) }
+    ensures { let t = lent tables.now in Checks (of_object t.refs t.types t.fields t.nodes t.literals t.variables room ty row shape) result }
 {
     let Shape::Keyed(given) = shape else {
-        return fail_at(literals, FieldError::CannotCoerce, row);
+        return fail_at(tables.literals, FieldError::CannotCoerce, row);
     };
-    if has_unknown_key(types, fields, literals, ty, given) {
-        return fail_at(literals, FieldError::UnknownKey, row);
+    if has_unknown_key(tables, ty, given) {
+        return fail_at(tables.literals, FieldError::UnknownKey, row);
     }
-    let def = type_at(types, ty);
-    let declared = def.fields;
-    input_fields(
-        type_refs, types, fields, nodes, literals, variables, room, row, given, declared,
-    )
+    input_fields(tables, room, row, given, type_at(tables.types, ty).fields)
 }
 
 // At a type that is no input object a literal converts part by part.
-#[cycle(coerce_argument_value_coerce_items_coerce_named_coerce_shape_input_field_input_fields_input_object)]
+#[cycle(coerce)]
 fn coerce_named(
-    type_refs: &[u32],
-    types: &[u32],
-    fields: &[u32],
-    nodes: &[u32],
-    literals: &[u32],
-    variables: &[u32],
+    tables: &Tables,
     room: u32,
     row: u32,
     shape: Shape,
     name: u32,
-) -> Coercion
-    requires coercible { Coercible types.now nodes.now literals.now variables.now }
-    requires form_at { FormAt literals.now row (Form.Shaped shape) }
-    ensures { Checks (of_named type_refs.now types.now fields.now nodes.now literals.now variables.now room row shape name) result }
+) -> Result<(), Uncoerced>
+    requires coercible { let t = lent tables.now in Coercible t.types t.nodes t.literals t.variables }
+    requires form_at { let t = lent tables.now in FormAt t.literals row (Form.Shaped shape) }
+    ensures { let t = lent tables.now in Checks (of_named t.refs t.types t.fields t.nodes t.literals t.variables room row shape name) result }
 {
-    let Some(ty) = type_named(types, name) else {
-        return fail_at(literals, FieldError::UndefinedInputType, row);
+    let Some(ty) = type_named(tables.types, name) else {
+        return fail_at(tables.literals, FieldError::UndefinedInputType, row);
     };
-    let def = type_at(types, ty);
-    let kind = def.kind;
-    let TypeKind::InputObject = kind else {
-        return check_part_by_part(literals, room, row);
+    let TypeKind::InputObject = type_at(tables.types, ty).kind else {
+        return check_part_by_part(tables.literals, room, row);
     };
-    input_object(
-        type_refs, types, fields, nodes, literals, variables, room, ty, row, shape,
-    )
+    input_object(tables, room, ty, row, shape)
 }
 
-#[cycle(coerce_argument_value_coerce_items_coerce_named_coerce_shape_input_field_input_fields_input_object)]
+#[cycle(coerce)]
 fn coerce_shape(
-    type_refs: &[u32],
-    types: &[u32],
-    fields: &[u32],
-    nodes: &[u32],
-    literals: &[u32],
-    variables: &[u32],
+    tables: &Tables,
     room: u32,
     ty: u32,
     row: u32,
     shape: Shape,
-) -> Coercion
-    requires coercible { Coercible types.now nodes.now literals.now variables.now }
-    requires form_at { FormAt literals.now row (Form.Shaped shape) }
-    ensures { Checks (of_shape type_refs.now types.now fields.now nodes.now literals.now variables.now room ty row shape) result }
+) -> Result<(), Uncoerced>
+    requires coercible { let t = lent tables.now in Coercible t.types t.nodes t.literals t.variables }
+    requires form_at { let t = lent tables.now in FormAt t.literals row (Form.Shaped shape) }
+    ensures { let t = lent tables.now in Checks (of_shape t.refs t.types t.fields t.nodes t.literals t.variables room ty row shape) result }
 {
-    match type_ref_at(type_refs, ty) {
-        TypeRef::Named { name, nullable: _ } => coerce_named(
-            type_refs, types, fields, nodes, literals, variables, room, row, shape, name,
-        ),
-        TypeRef::ListOf { inner, nullable: _ } => coerce_items(
-            type_refs,
-            types,
-            fields,
-            nodes,
-            literals,
-            variables,
-            room,
-            inner,
-            items_of(row, shape),
-        ),
-        TypeRef::Unknown => fail_at(literals, FieldError::UndefinedInputType, row),
+    match type_ref_at(tables.type_refs, ty) {
+        TypeRef::Named { name, .. } => coerce_named(tables, room, row, shape, name),
+        TypeRef::ListOf { inner, .. } => coerce_items(tables, room, inner, items_of(row, shape)),
+        TypeRef::Unknown => fail_at(tables.literals, FieldError::UndefinedInputType, row),
     }
 }
 
 // A literal (a row) at a type reference (a row).
-#[cycle(coerce_argument_value_coerce_items_coerce_named_coerce_shape_input_field_input_fields_input_object)]
-pub fn coerce_argument_value(
-    type_refs: &[u32],
-    types: &[u32],
-    fields: &[u32],
-    nodes: &[u32],
-    literals: &[u32],
-    variables: &[u32],
-    room: u32,
-    ty: u32,
-    row: u32,
-) -> Coercion
-    requires { Coercible types.now nodes.now literals.now variables.now }
-    ensures { Checks (of_value type_refs.now types.now fields.now nodes.now literals.now variables.now room ty row) result }
+#[cycle(coerce)]
+pub fn coerce_argument_value(tables: &Tables, room: u32, ty: u32, row: u32) -> Result<(), Uncoerced>
+    requires { let t = lent tables.now in Coercible t.types t.nodes t.literals t.variables }
+    ensures { let t = lent tables.now in Checks (of_value t.refs t.types t.fields t.nodes t.literals t.variables room ty row) result }
 {
-    match literal_form(literals, row) {
+    match literal_form(tables.literals, row) {
         Form::Null => {
-            if is_non_null(type_refs, ty) {
-                return fail_at(literals, FieldError::InnerNull, row);
+            if is_non_null(tables.type_refs, ty) {
+                return fail_at(tables.literals, FieldError::InnerNull, row);
             }
-            Coercion::Value
+            Ok(())
         }
-        Form::Variable(name) => coerce_variable(
-            type_refs, nodes, literals, variables, ty, row, name,
-        ),
-        Form::Shaped(shape) => coerce_shape(
-            type_refs, types, fields, nodes, literals, variables, room, ty, row, shape,
-        ),
+        Form::Variable(name) => coerce_variable(tables, ty, row, name),
+        Form::Shaped(shape) => coerce_shape(tables, room, ty, row, shape),
     }
 }

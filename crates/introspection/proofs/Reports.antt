@@ -5,15 +5,15 @@ use mathlib.Core.List.{List, []}
 use Prim.Native.Nat.{ℕ}
 use native.Mathlib.Omega.{arith}
 use lib.ListN.{replicate}
+use Rattle.std.specs.Prelude.{None}
 use Rattle.tables.specs.Tables.{Tables}
 use Rattle.tables.specs.Lawful.{lawful, table_code}
 use Rattle.codes.specs.Outcome.{code_of}
 use Rattle.codes.specs.declared.outcome.Outcome.TheVariants.{Unlawful}
 use Rattle.graphql.specs.Depth.{Rises, check_set, answered, depth_report}
 use Rattle.graphql.specs.Depth as defined
-use Rattle.introspection.specs.MaxDepth.{Answers, said, meant, Checks, Walkable}
+use Rattle.introspection.specs.MaxDepth.{Answers, Checked, Marks, said, meant, Checks, Walkable}
 use Rattle.introspection.specs.declared.max_depth.DepthAnswer.{DepthAnswer}
-use Rattle.introspection.specs.declared.max_depth.Checked.{Checked}
 use Rattle.introspection.proofs.Marks.{unmarked}
 use Rattle.introspection.proofs.Document.{walkable}
 
@@ -24,8 +24,8 @@ heard (defined.too_deep place) = refl
 heard (defined.depth d rises) = refl
 
 -- a walk that begins with nothing remembered
-pub reported : (fragments : List ℕ) (x : Rises → defined.Checked) {sets marks' : List ℕ} {r : DepthAnswer} {checked : Checked}
-    → Walkable sets fragments (replicate 64 0) 0 → Checks fragments (replicate 64 0) x checked marks' → Answers r (answered (meant checked)) → Answers r (answered (x []))
+pub reported : (fragments : List ℕ) (x : Rises → defined.Checked) {sets : List ℕ} {marks' : Marks} {r : DepthAnswer} {checked : Checked}
+    → Walkable sets fragments (replicate 64 None) 0 → Checks fragments (replicate 64 None) x checked marks' → Answers r (answered (meant checked)) → Answers r (answered (x []))
 reported fragments x w q a =
     rw ((q.checks [] (unmarked fragments w.few)).what, heard (x [])) at a
 
@@ -46,12 +46,12 @@ module _ (T : Tables) {code : ℕ} (e : code ≡ table_code T) where
       go true h = refl
       go false h = absurd (omega arith)
 
-  pub report_unlawful : {unlawful : ℕ} → (code ≡ 0 → ⊥) → unlawful ≡ code_of Unlawful
-      → Answers (record { code = unlawful; depth = 0; place = 0 }) (depth_report T)
+  pub report_unlawful : {r : DepthAnswer} → (code ≡ 0 → ⊥) → r ≡ record { code = code_of Unlawful; depth = 0; place = 0 }
+      → Answers r (depth_report T)
   unfolding depth_report
-  report_unlawful z c = rw (broken z) (record { code = c; depth = refl; place = refl })
+  report_unlawful z e = rw (broken z, e) (record { code = refl; depth = refl; place = refl })
 
-  pub report_walkable : code ≡ 0 → Walkable T.sets T.fragments (replicate 64 0) 0
+  pub report_walkable : code ≡ 0 → Walkable T.sets T.fragments (replicate 64 None) 0
   report_walkable z = walkable T (sound z)
 
   pub report_checked : {r : DepthAnswer} → code ≡ 0

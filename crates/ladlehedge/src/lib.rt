@@ -1,6 +1,6 @@
 // The public entries as C functions, for a static library. Each is a call of the entry that it is named after and promises
 // what that entry promises; nothing is asked of the caller but what C itself asks (include/ladlehedge.h). A slice is passed as
-// a pointer and then a length.
+// a pointer and then a length, so the tables come one by one, and are put together here.
 #![tactic(auto)]
 
 ghost use Rattle.std.specs.Prelude.{◌≡◌, length};
@@ -11,6 +11,7 @@ ghost use Rattle.graphql.specs.Report.{report, report_in_order, Reports};
 ghost use Rattle.introspection.specs.MaxDepth.{Answers};
 
 use introspection::max_depth::depth_check;
+use rows::tables::Tables;
 use running::run::{run, run_ordered};
 use tables::check::table_check;
 
@@ -36,10 +37,25 @@ pub extern "C" fn ladlehedge_table_check(
 ) -> u32
     ensures { result ≡ table_code (tables pool.now names.now type_refs.now types.now members.now fields.now arguments.now sets.now selections.now given.now fragments.now nodes.now literals.now variables.now answers.now root) }
 {
-    table_check(
-        pool, names, type_refs, types, members, fields, arguments, sets, selections, given,
-        fragments, nodes, literals, variables, answers, root,
-    )
+    let tables = Tables {
+        pool,
+        names,
+        type_refs,
+        types,
+        members,
+        fields,
+        arguments,
+        sets,
+        selections,
+        given,
+        fragments,
+        nodes,
+        literals,
+        variables,
+        answers,
+        root,
+    };
+    table_check(&tables)
 }
 
 // How deep the operation nests lists that a schema can loop through: the code, with the depth where it is 0 and the place
@@ -67,10 +83,25 @@ pub extern "C" fn ladlehedge_depth_check(
 ) -> u32
     ensures { Answers (record { code = result; depth = depth.new; place = place.new }) (depth_report (tables pool.now names.now type_refs.now types.now members.now fields.now arguments.now sets.now selections.now given.now fragments.now nodes.now literals.now variables.now answers.now root)) }
 {
-    let answer = depth_check(
-        pool, names, type_refs, types, members, fields, arguments, sets, selections, given,
-        fragments, nodes, literals, variables, answers, root,
-    );
+    let tables = Tables {
+        pool,
+        names,
+        type_refs,
+        types,
+        members,
+        fields,
+        arguments,
+        sets,
+        selections,
+        given,
+        fragments,
+        nodes,
+        literals,
+        variables,
+        answers,
+        root,
+    };
+    let answer = depth_check(&tables);
     *depth = answer.depth;
     *place = answer.place;
     answer.code
@@ -103,10 +134,25 @@ pub extern "C" fn ladlehedge_run(
 ) -> u32
     ensures { Reports (length text.old) (length errors.old) (report_in_order (record { tables = tables pool.now names.now type_refs.now types.now members.now fields.now arguments.now sets.now selections.now given.now fragments.now nodes.now literals.now variables.now answers.now root }) (length text.old) (length errors.old)) (record { code = result; bytes = bytes.new; words = words.new; records = records.new }) text.new errors.new }
 {
-    let handed = run(
-        pool, names, type_refs, types, members, fields, arguments, sets, selections, given,
-        fragments, nodes, literals, variables, answers, root, text, errors,
-    );
+    let tables = Tables {
+        pool,
+        names,
+        type_refs,
+        types,
+        members,
+        fields,
+        arguments,
+        sets,
+        selections,
+        given,
+        fragments,
+        nodes,
+        literals,
+        variables,
+        answers,
+        root,
+    };
+    let handed = run(&tables, text, errors);
     *bytes = handed.bytes;
     *words = handed.words;
     *records = handed.records;
@@ -141,10 +187,25 @@ pub extern "C" fn ladlehedge_run_ordered(
 ) -> u32
     ensures { Reports (length text.old) (length errors.old) (report (record { tables = tables pool.now names.now type_refs.now types.now members.now fields.now arguments.now sets.now selections.now given.now fragments.now nodes.now literals.now variables.now answers.now root }) (length text.old) (length errors.old) choices.now) (record { code = result; bytes = bytes.new; words = words.new; records = records.new }) text.new errors.new }
 {
-    let handed = run_ordered(
-        pool, names, type_refs, types, members, fields, arguments, sets, selections, given,
-        fragments, nodes, literals, variables, answers, root, choices, text, errors,
-    );
+    let tables = Tables {
+        pool,
+        names,
+        type_refs,
+        types,
+        members,
+        fields,
+        arguments,
+        sets,
+        selections,
+        given,
+        fragments,
+        nodes,
+        literals,
+        variables,
+        answers,
+        root,
+    };
+    let handed = run_ordered(&tables, choices, text, errors);
     *bytes = handed.bytes;
     *words = handed.words;
     *records = handed.records;

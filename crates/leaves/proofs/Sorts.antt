@@ -1,5 +1,5 @@
 -- The sort of a leaf, way by way. Assumes nothing.
-use mathlib.Core.Path.{◌≡◌, refl}
+use mathlib.Core.Path.{◌≡◌, refl, sym, ◌∙◌}
 use mathlib.Core.Bool.{Bool, true, false}
 use mathlib.Core.List.{List, [], ◌∷◌}
 use Prim.Native.Nat.{ℕ}
@@ -23,7 +23,6 @@ use Rattle.input_coercion.specs.Coerced.{form_meant, FormAt}
 use Rattle.input_coercion.specs.declared.check.Form.{Form}
 use Rattle.input_coercion.specs.declared.check.Form.TheVariants as form
 use Rattle.input_coercion.specs.contracts.check.Form.{the_type as form_type}
-use Rattle.input_coercion.proofs.Leaves.{not_found, is_found_lem}
 use Rattle.input_coercion.proofs.Walk.{other_kinds, other_kind}
 use Rattle.values.specs.Plain.{said, node_sort}
 use Rattle.values.specs.Literals.{literal_sort}
@@ -54,16 +53,16 @@ module _ (refs types : List ℕ) (ty : ℕ) {t : TypeRef} (e : t ≡ type_ref_at
   module _ {name : ℕ} {nullable : Bool} {found : Option ℕ} (h : t ≡ ref.Named name nullable) (f : found ≡ (type_named types name)) where
     pub container_undefined : found ≡ None → false ≡ is_container types (type_ref_at refs ty)
     unfolding is_container named_container
-    container_undefined n = rw (← e, h, not_found (type_named types name) f n)
+    container_undefined n = rw (← e, h, sym f ∙ n)
 
     module _ {type : ℕ} {def : TypeDef} (n : found ≡ Some type) (d : def ≡ type_at types type) where
       pub container_other : Among other_kinds (tag_of kind_type def.kind) → false ≡ is_container types (type_ref_at refs ty)
       unfolding is_container named_container
-      container_other o = rw (← e, h, is_found_lem (type_named types name) f n, ← d, other_kind def.kind o)
+      container_other o = rw (← e, h, sym f ∙ n, ← d, other_kind def.kind o)
 
       pub container_object : def.kind ≡ kind.InputObject → true ≡ is_container types (type_ref_at refs ty)
       unfolding is_container named_container is_input_object
-      container_object k = rw (← e, h, is_found_lem (type_named types name) f n, ← d, k)
+      container_object k = rw (← e, h, sym f ∙ n, ← d, k)
 
 pub ruleset containing = (container_unnamed, container_undefined, container_other, container_object, shut)
 

@@ -2,6 +2,7 @@
 use mathlib.Core.Path.{◌≡◌, refl}
 use mathlib.Core.Bool.{true, false}
 use mathlib.Core.List.{List, [], ◌∷◌}
+use mathlib.Core.Logic.{◌⊎◌, inl, inr}
 use Rattle.std.specs.Prelude.{Some}
 use Prim.Native.Nat.{ℕ, ◌+◌, ◌*◌}
 use native.Mathlib.Omega.{arith}
@@ -181,7 +182,7 @@ module _ (pool names nodes literals : List ℕ) {l : Leaf} {r : List ℕ} where
       rw (h, b)
       (record { spells = λ refs types fields variables j s q e. let i = rw q at e in cc })
 
-  pub spells_literal : {ty row : ℕ} → l ≡ leaf.Literal ty row → r ≡ bytes_of (string_of (plain_literal pool names (literal_at literals row)))
+  spells_literal : {ty row : ℕ} → l ≡ leaf.Literal ty row → r ≡ bytes_of (string_of (plain_literal pool names (literal_at literals row)))
       → SpellsLeaf pool names nodes literals l r
   spells_literal {ty} {row} h b =
       rw (h, b)
@@ -191,9 +192,15 @@ module _ (pool names nodes literals : List ℕ) {l : Leaf} {r : List ℕ} where
             (became pool names refs types fields nodes literals variables ty row j q);
       })
 
-  pub spells_default : {row : ℕ} → l ≡ leaf.Default row → r ≡ bytes_of (string_of (plain_literal pool names (literal_at literals row)))
+  spells_default : {row : ℕ} → l ≡ leaf.Default row → r ≡ bytes_of (string_of (plain_literal pool names (literal_at literals row)))
       → SpellsLeaf pool names nodes literals l r
   spells_default {row} h b =
       rw (h, b) (record { spells = λ refs types fields variables j s q e. literal_spelled j s e pool names literals most_open row q })
 
-pub ruleset spelling = (spells_node, spells_name, spells_literal, spells_default)
+  -- a literal's string is the same at any type
+  pub spells_row : {row : ℕ} → ((ty : ℕ) × (l ≡ leaf.Literal ty row)) ⊎ (l ≡ leaf.Default row)
+      → r ≡ bytes_of (string_of (plain_literal pool names (literal_at literals row))) → SpellsLeaf pool names nodes literals l r
+  spells_row (inl (ty, h)) b = spells_literal h b
+  spells_row (inr h) b = spells_default h b
+
+pub ruleset spelling = (spells_node, spells_name, spells_row)

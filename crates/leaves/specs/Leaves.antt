@@ -13,10 +13,17 @@ use Rattle.graphql.specs.Values.{node_value, part_by_part, variable, literal_for
 use Rattle.graphql.specs.Coerce.{coerce_argument_value}
 use Rattle.values.specs.Plain.{said}
 use Rattle.values.specs.declared.sort.Sort.{Sort}
-use Rattle.values.specs.declared.node.Put.{Put}
-use Rattle.echoing.specs.Echo.{Comes, Shown}
+use Rattle.echoing.specs.Echo.{Put, Comes, Shown}
+use Rattle.echoing.specs.declared.echo.Source.{Source}
+use Rattle.echoing.specs.declared.echo.Source.TheVariants as source
 use Rattle.leaves.specs.declared.leaf.Leaf.{Leaf}
 use Rattle.leaves.specs.declared.leaf.Leaf.TheVariants as leaf
+
+-- what an argument that is echoed is, by where its value stands
+abbrev pub leaf_of : Source → Leaf
+leaf_of (source.Node row) = leaf.Node row
+leaf_of (source.Literal ty row) = leaf.Literal ty row
+leaf_of (source.Default row) = leaf.Default row
 
 module _ (pool names refs types fields nodes literals variables : List ℕ) where
   -- a literal that is echoed was given as an argument of a field, and is no variable

@@ -1,25 +1,33 @@
 -- A search through rows: how far it went, what it found, and where that lies. Assumes nothing.
-use mathlib.Core.Path.{◌≡◌, refl, sym, ◌∙◌}
+use mathlib.Core.Path.{◌≡◌, refl, ◌∙◌}
 use mathlib.Core.Bool.{Bool, true, false, cond, ◌||◌}
 use mathlib.Core.List.{List, [], ◌∷◌}
-use Rattle.std.specs.Prelude.{Option, Some, None}
+use Rattle.std.specs.Prelude.{Option, Some, None, is_some}
 use Prim.Native.Nat.{ℕ, zero, suc, ◌+◌, ◌-◌, ◌≤◌, ◌<◌}
 use native.Mathlib.Nat.{sub-zero, add-zero}
 use native.Mathlib.Omega.{arith}
 use borrow.Author.Tests.{eq-eqb, ne_eqb}
+use denote.Param.Members.{Mut}
 use Rattle.rows.specs.Rows.{cell}
-use Rattle.rows.specs.Strings.{same}
-use Rattle.rows.specs.Names.{name_text}
-use Rattle.rows.specs.Schema.{member_at}
+use Rattle.std.specs.Fn.{Called}
+use Rattle.std.specs.Iterator.{ChecksAny}
+use Rattle.std.specs.List.{list_any, range_with_len}
+use Rattle.std.proofs.iter.Yields.{nat_range_steps}
+use Rattle.std.proofs.lemmas.Iterator.{YieldsList-from_range}
+use Rattle.std.proofs.lemmas.Iterator.Search.{any_from_yields_List}
+use Rattle.std.specs.declared.ops.Range.{Range as Span}
 use Rattle.rows.specs.declared.layout.Range.{Range}
 use Rattle.graphql.specs.Lookup.{rows_from, rows_in, find, any}
-use Rattle.lookup.specs.Found.{has_word, is_named, is_found}
+use Rattle.lookup.specs.Found.{has_word}
 
 module _ (test : ℕ → Bool) where
   -- the row that comes next does not pass
   find_next : (row n : ℕ) → test row ≡ false → find test (rows_from row (suc n)) ≡ find test (rows_from (suc row) n)
   unfolding find rows_from
   find_next row n e = rw e
+
+  find_past : (row n : ℕ) {m : ℕ} → m ≡ suc n → test row ≡ false → find test (rows_from row m) ≡ find test (rows_from (row + 1) n)
+  find_past row n e t = let on : row + 1 ≡ suc row = omega arith in rw (e, on) (find_next row n t)
 
   -- or it does
   find_here : (row n : ℕ) → test row ≡ true → find test (rows_from row (suc n)) ≡ Some row
@@ -48,14 +56,64 @@ module _ (test : ℕ → Bool) where
       go false e later = let l : f < suc first + n = later e in omega arith
 
   -- one of the rows passes just if one is found
-  pub any_found : (rows : List ℕ) → any test rows ≡ is_found (find test rows)
+  pub any_found : (rows : List ℕ) → any test rows ≡ is_some (find test rows)
   unfolding any find
   any_found [] = refl
   any_found (row ∷ rest) = go (test row) (any_found rest)
     where
-      go : (b : Bool) → any test rest ≡ is_found (find test rest) → (b || any test rest) ≡ is_found (cond b (Some row) (find test rest))
+      go : (b : Bool) → any test rest ≡ is_some (find test rest) → (b || any test rest) ≡ is_some (cond b (Some row) (find test rest))
       go true h = refl
       go false h = h
+
+-- ---- the search for a word: what is left of the rows, from this one on
+
+module _ (t : List ℕ) (width column word : ℕ) (rows : Range) where
+  abbrev passes' : ℕ → Bool
+  passes' = has_word t width column word
+
+  pub record Left (row : ℕ) : Type 0 where
+    pub sought : find passes' (rows_in rows) ≡ find passes' (rows_from row (rows.first + rows.count - row))
+
+  pub left_begin : Left rows.first
+  unfolding rows_in
+  left_begin = record { sought = let e : rows.first + rows.count - rows.first ≡ rows.count = omega arith in rw e }
+
+  module _ {row got : ℕ} (s : Left row) (l : row < rows.first + rows.count) (e : got ≡ cell t width row column) where
+    others : rows.first + rows.count - row ≡ suc (rows.first + rows.count - (row + 1))
+    others = omega arith
+
+    pub left_next : (got ≡ word → ⊥) → Left (row + 1)
+    left_next d =
+        record { sought = s.sought ∙ find_past passes' row (rows.first + rows.count - (row + 1)) others (ne_eqb _ _ (rw e at d)) }
+
+    pub left_found : got ≡ word → Some row ≡ find passes' (rows_in rows)
+    left_found d = rw (s.sought, others, find_here passes' row (rows.first + rows.count - (row + 1)) (eq-eqb _ _ (rw e at d)))
+
+  pub left_none : {row : ℕ} → Left row → rows.first + rows.count ≤ row → None ≡ find passes' (rows_in rows)
+  unfolding find rows_from
+  left_none {row} s l = let z : rows.first + rows.count - row ≡ 0 = omega arith in rw (s.sought, z)
+
+pub ruleset seeking = (left_begin, left_next, left_found, left_none)
+
+-- ---- the library's search through a range
+
+module _ (test : ℕ → Bool) where
+  any_same : (first n : ℕ) → list_any test (range_with_len first n) ≡ any test (rows_from first n)
+  unfolding any rows_from
+  any_same first zero = refl
+  any_same first (suc n) = let e : first + 1 ≡ suc first = omega arith in rw (e, any_same (suc first) n)
+
+  pub any_in_range : (rows : Range) {F : Type 0} {g : Mut F (ℕ × Unit {0}) Bool} {f : F} {r : Bool} (u : Span ℕ)
+      → ChecksAny nat_range_steps g (record { start = rows.first; end = rows.first + rows.count }) f r u
+      → ((row : ℕ) (b : Bool) (h : F) → Called g f (row, tt) b h → (h ≡ f) × (b ≡ test row)) → r ≡ any test (rows_in rows)
+  unfolding rows_in
+  any_in_range rows {f = f'} {r = r'} u ran agrees =
+      any_from_yields_List test u f' r' ran (YieldsList-from_range rows.first (rows.first + rows.count) rows.count refl (omega arith)) agrees
+      ∙ any_same rows.first rows.count
+
+  -- whether one was found
+  pub passes : (rows : List ℕ) {found : Option ℕ} {b : Bool} → found ≡ find test rows → b ≡ is_some found → b ≡ any test rows
+  passes rows e f = rw (f, e, any_found test rows)
 
 -- the search came to the row first + i
 module _ (test : ℕ → Bool) (rows : Range) where
@@ -83,53 +141,18 @@ module _ (test : ℕ → Bool) (rows : Range) where
   unfolding find rows_from
   seek_none {i} s l = let z : rows.count - i ≡ 0 = omega arith in rw (s.sought, z)
 
--- a search for a word
-module _ (t : List ℕ) (width column word : ℕ) (rows : Range) where
-  module _ {i got : ℕ} (s : Seeking (has_word t width column word) rows i) (l : i < rows.count) (e : got ≡ cell t width (rows.first + i) column) where
-    pub word_next : (got ≡ word → ⊥) → Seeking (has_word t width column word) rows (i + 1)
-    word_next d = seek_next (has_word t width column word) rows s l (ne_eqb _ _ (rw e at d))
-
-    pub word_found : got ≡ word → Some (rows.first + i) ≡ (find (has_word t width column word) (rows_in rows))
-    word_found d = rw (seek_found (has_word t width column word) rows s l (eq-eqb _ _ (rw e at d)))
-
-  pub word_none : {i : ℕ} → Seeking (has_word t width column word) rows i → rows.count ≤ i → None ≡ (find (has_word t width column word) (rows_in rows))
-  word_none s l = rw (seek_none (has_word t width column word) rows s l)
-
-pub ruleset seeking = (seek_begin, word_next, word_found, word_none)
-
 -- what a search that found nothing, and one that found a row, say of whether there is one
 module _ (test : ℕ → Bool) (rows : List ℕ) where
   pub none_passes : None ≡ (find test rows) → false ≡ any test rows
   none_passes e = rw any_found (go (find test rows) e)
     where
-      go : (o : Option ℕ) → None ≡ o → false ≡ is_found o
+      go : (o : Option ℕ) → None ≡ o → false ≡ is_some o
       go None e = refl
       go (Some row) e = absurd (let z : ◌≡◌ {A = ℕ} 0 1 = cc in omega arith)
 
   pub one_passes : {row : ℕ} → Some row ≡ (find test rows) → true ≡ any test rows
   one_passes e = rw any_found (go (find test rows) e)
     where
-      go : (o : Option ℕ) {row : ℕ} → Some row ≡ o → true ≡ is_found o
+      go : (o : Option ℕ) {row : ℕ} → Some row ≡ o → true ≡ is_some o
       go None e = absurd (let z : ◌≡◌ {A = ℕ} 0 1 = cc in omega arith)
       go (Some row) e = refl
-
--- a search for a name among members
-module _ (pool names members string : List ℕ) (rows : Range) where
-  abbrev named : ℕ → Bool
-  named = is_named pool names members string
-
-  module _ {i name : ℕ} {got : Bool} {text : List ℕ} (s : Seeking named rows i) (l : i < rows.count)
-      (m : name ≡ member_at members (rows.first + i)) (n : text ≡ name_text pool names name) (e : got ≡ same text string) where
-    tested : got ≡ named (rows.first + i)
-    tested = rw (← m, ← n) e
-
-    pub member_next : got ≡ false → Seeking named rows (i + 1)
-    member_next d = seek_next named rows s l (sym tested ∙ d)
-
-    pub member_found : got ≡ true → true ≡ any named (rows_in rows)
-    member_found d = one_passes named (rows_in rows) {row = rows.first + i} (rw (seek_found named rows s l (sym tested ∙ d)))
-
-  pub member_none : {i : ℕ} → Seeking named rows i → rows.count ≤ i → false ≡ any named (rows_in rows)
-  member_none s l = none_passes named (rows_in rows) (rw (seek_none named rows s l))
-
-pub ruleset members = (seek_begin, member_next, member_found, member_none)

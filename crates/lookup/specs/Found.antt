@@ -1,6 +1,5 @@
--- A search through rows for a word in a column, and how the code says what was found.
-use Rattle.std.specs.Prelude.{Bool, true, false, List, ℕ, ◌+◌, ◌≤◌, eqb}
-use Rattle.std.specs.Prelude.{Option, Some, None}
+-- A search through rows for a word in a column.
+use Rattle.std.specs.Prelude.{Bool, List, ℕ, ◌+◌, ◌≤◌, eqb, Option, is_some}
 use Rattle.rows.specs.Limits.{most_rows}
 use Rattle.rows.specs.Rows.{cell}
 use Rattle.rows.specs.Strings.{same}
@@ -16,8 +15,7 @@ abbrev pub is_named : (pool names members string : List ℕ) → ℕ → Bool
 is_named pool names members string row = same (name_text pool names (member_at members row)) string
 
 abbrev pub is_found : Option ℕ → Bool
-is_found None = false
-is_found (Some row) = true
+is_found found = is_some found
 
 -- the members that each type lists have numbers that are words; lawful tables give it
 pub record Listed (types : List ℕ) : Type 0 where

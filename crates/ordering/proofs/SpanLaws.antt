@@ -173,32 +173,23 @@ together_more [] w = omega arith
 together_more (v ∷ ws) w = rw (together_more ws w) (omega arith)
 
 -- What holds where they are added up.
-pub record Adding (spans : List ℕ) (base group start at sum i : ℕ) : Type 0 where
-  pub room : base + group ≤ length spans
-  pub within : i ≤ group
+pub record Adding (ws : List ℕ) (start at sum i : ℕ) : Type 0 where
   pub low : sum ≤ at
-  pub sums : sum ≡ entry_start (spans_at spans base i) start at
+  pub sums : sum ≡ entry_start (take i ws) start at
 
-pub add_begin : {spans : List ℕ} {base group start at : ℕ} → base + group ≤ length spans → start < at → Adding spans base group start at start 0
+pub add_begin : {ws : List ℕ} {start at : ℕ} → start < at → Adding ws start at start 0
 unfolding together
-add_begin room h = record { room = room; within = omega arith; low = omega arith; sums = omega arith }
+add_begin h = record { low = omega arith; sums = omega arith }
 
-pub add_again : {spans : List ℕ} {base group start at sum next i : ℕ} → Adding spans base group start at sum i → i < group
-    → next ≡ min (sum + (get_or spans (base + i) 0 - 1)) at → Adding spans base group start at next (i + 1)
-add_again {spans} {base} {group} {start} {at} {sum} {next} {i} g h e = record {
-  room = g.room;
-  within = omega arith;
+pub add_again : {ws : List ℕ} {start at sum next i : ℕ} → Adding ws start at sum i → i < length ws → next ≡ min (sum + (get_or ws i 0 - 1)) at
+    → Adding ws start at next (i + 1)
+add_again {ws} {i = i} g h e = record {
   low = omega arith;
-  sums =
-      rw (add-one, spans_more spans base group g.room i h, together_more (spans_at spans base i) (get_or spans (base + i) 0))
-      (omega (arith, e, g.sums));
+  sums = rw (add-one, take-suc ws i 0 h, together_more (take i ws) (get_or ws i 0)) (omega (arith, e, g.sums));
 }
 
-pub add_end : {spans : List ℕ} {base group start at sum i : ℕ} → Adding spans base group start at sum i → group ≤ i
-    → sum ≡ entry_start (spans_at spans base group) start at
-add_end {spans} {base} {group} {start} {at} {sum} {i} g h =
-    let e : i ≡ group = omega (arith, g.within) in
-    g.sums ∙ ap (λ (k : ℕ). entry_start (spans_at spans base k) start at) e
+pub add_end : {ws : List ℕ} {start at sum i : ℕ} → Adding ws start at sum i → length ws ≤ i → sum ≡ entry_start ws start at
+add_end {ws} {start} {at} {sum} {i} g h = g.sums ∙ ap (λ (l : List ℕ). entry_start l start at) (take_all i ws h)
 
 -- ---- A span
 

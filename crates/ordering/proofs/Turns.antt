@@ -2,7 +2,7 @@
 -- say which slots are empty, and where the entry of one begins. Assumes nothing.
 use mathlib.Core.Path.{◌≡◌, refl, sym, ap, ◌∙◌}
 use mathlib.Core.Bool.{cond}
-use Rattle.std.specs.Prelude.{Option, Some, None}
+use Rattle.std.specs.Prelude.{Option, Some, None, Ok, Err}
 use mathlib.Core.List.{List, []}
 use Prim.Native.Nat.{ℕ, suc, ◌+◌, ◌-◌, ◌≤◌, ◌<◌}
 use native.Mathlib.Omega.{arith}
@@ -19,7 +19,6 @@ use Rattle.walking.specs.declared.state.State.{State}
 use Rattle.walking.specs.declared.state.Kind.{Kind}
 use Rattle.walking.specs.declared.state.Kind.TheVariants as kind
 use Rattle.walking.specs.declared.state.Failure.{Failure}
-use Rattle.walking.specs.declared.state.Completed.TheVariants.{Placed, Fails}
 use Rattle.walking.specs.declared.state.Done.{Done}
 use Rattle.walking.specs.Gives.{View, as_data, as_entry, moved_to, Gives}
 use Rattle.walking.specs.Settled.{passed_list}
@@ -41,9 +40,9 @@ picked_is n cs choice = go (dec_lt choice (length cs))
 
 -- What was placed was written.
 gives_wrote : {A : Type 0} {U : View A} {cs text errors text' errors' : List ℕ} {s : State} {x : Res A} {d : Done} {k : Kind}
-    → Gives U cs text errors s x d text' errors' → d.what ≡ Placed k → (v : A) × Wrote text text' s.at d.state.at (U.show v)
+    → Gives U cs text errors s x d text' errors' → d.what ≡ Ok k → (v : A) × Wrote text text' s.at d.state.at (U.show v)
 gives_wrote {U = U} {x = x} q e =
-    let r = placed_of U x (sym e ∙ q.what) in
+    let r = placed_of U x e q.what in
     let y = rw r.3 at q in (r.0, y.wrote)
 
 -- a span, as that of a slot that is filled
@@ -100,7 +99,7 @@ module _ {G : Type 0} (run : G → M Val) (key : G → List ℕ) (z : G) (cs : C
     -- No group is left, and the brackets are put.
     pub turning_ended : groups ≤ taken → {text1 : List ℕ} {end top : ℕ} → Closes 123 125 text s.at at text1 end
         → Gives as_data cs text₀ errors₀ s (whole run key z cs gs p text₀ errors₀ s)
-        (record { what = Placed kind.Object; state = record { at = end; errs = errs; choice = choice; top = top } }) text1 errors
+        (record { what = Ok kind.Object; state = record { at = end; errs = errs; choice = choice; top = top } }) text1 errors
     turning_ended l close =
         let e : groups - taken ≡ 0 = omega arith in
         setting_ended run key z cs gs p text₀ errors₀ s (rw e at h.setting) close
@@ -154,12 +153,12 @@ module _ {G : Type 0} (run : G → M Val) (key : G → List ℕ) (z : G) (cs : C
           entry = rw is_slot at q
 
           -- The set is given up.
-          pub turning_lost : {f : Failure} → d.what ≡ Fails f
+          pub turning_lost : {f : Failure} → d.what ≡ Err f
               → Gives as_data cs text₀ errors₀ s (whole run key z cs gs p text₀ errors₀ s)
               (passed_list (record { what = d.what; state = moved_to d.state s.at })) text2 errors2
           turning_lost f = setting_lost run key z cs gs p text₀ errors₀ s held nth_below picked entry f
 
-          module _ {k : Kind} (placed : d.what ≡ Placed k) where
+          module _ {k : Kind} (placed : d.what ≡ Ok k) where
             sure : d.state.at ≤ length text2 → at ≤ length text₀
             sure l = let w = (gives_wrote q placed).1 in omega (arith, w.moved, w.long, h.setting.wrote.long)
 

@@ -1,4 +1,5 @@
-// A set has a span for each of its groups: 0 while the group is not taken, then one more than the length of its entry.
+// A set has a span for each of its groups: 0 while the group is not taken, then one more than the length of its entry. It is a word, and no Option:
+// of these a run keeps 33 times 128, and 33 KiB more of stack, and to clear for each run, is what the rule of fixed memory leaves no room for.
 ghost use Rattle.std.specs.Prelude.{◌≡◌, ◌+◌, ◌-◌, ◌^◌, ◌≤◌, ◌<◌, min, length};
 ghost use Rattle.ordering.specs.Spans.{spans_at, open_at, opens, Clears, Tally, chosen, next_group, past_choice, span_of, entry_start, Turns, Puts};
 
@@ -9,20 +10,17 @@ pub fn clear_spans(spans: &mut [u64], base: usize, groups: usize)
     requires { base + groups ≤ length spans.old }
     ensures { Clears spans.old base groups spans.new }
 {
-    for i in 0..groups {
-        spans[base + i] = 0;
-    }
+    spans[base..base + groups].fill(0);
 }
 
-// The next choice, below `left`; 0 where there is none left.
+// The next choice, below `left`; where there is none left the first group is chosen.
 fn choose(choices: &[u32], choice: usize, left: usize) -> usize
     requires { 0 < left }
     ensures { result ≡ chosen choices.now choice left }
 {
-    if choice < choices.len() {
-        (choices[choice] as usize) % left
-    } else {
-        0
+    match choices.get(choice) {
+        Some(chosen) => (*chosen as usize) % left,
+        None => 0,
     }
 }
 
@@ -42,17 +40,15 @@ fn open_at(spans: &[u64], base: usize, groups: usize, low: usize, skip: usize) -
     ensures { result ≡ open_at (spans_at spans.now base groups) skip }
 {
     let mut left = skip;
-    let mut i = low;
-    while i < groups {
+    for i in low..groups {
         if spans[base + i] == 0 {
             if left == 0 {
                 return i;
             }
             left -= 1;
         }
-        i += 1;
     }
-    i
+    unreachable!()
 }
 
 // The group that the choice picks among those that are not taken. The first `low` are taken, and where they are all that are taken nothing is
@@ -81,11 +77,7 @@ fn past_entry(sum: usize, span: u64, at: usize) -> usize
     requires { sum ≤ at }
     ensures { result ≡ min (sum + (span - 1)) at }
 {
-    if span == 0 {
-        return sum;
-    }
-    let long = (span - 1) as usize;
-    if long < at - sum { sum + long } else { at }
+    sum.saturating_add(span.saturating_sub(1) as usize).min(at)
 }
 
 // Where the entry of a group begins: behind those of the groups before it. It is written at `at`, and nothing of the set is behind that.
@@ -97,8 +89,8 @@ fn entry_start(spans: &[u64], base: usize, group: usize, start: usize, at: usize
         return at;
     }
     let mut sum = start;
-    for i in 0..group {
-        sum = past_entry(sum, spans[base + i], at);
+    for span in &spans[base..base + group] {
+        sum = past_entry(sum, *span, at);
     }
     sum
 }
@@ -108,11 +100,10 @@ fn span(long: usize, at: usize, end: usize) -> u64
     ensures { result ≡ span_of long at end }
 {
     if end <= long {
-        if at < end {
-            return ((end - at) as u64) + 1;
-        }
+        end.saturating_sub(at) as u64 + 1
+    } else {
+        1
     }
-    1
 }
 
 // An entry is in its place where the groups taken are those before it.
@@ -130,10 +121,8 @@ fn turn(
     requires { base + group ≤ length spans.now }
     ensures { Turns text.old spans.now base group low taken start at end text.new }
 {
-    if low == taken {
-        if group == low {
-            return;
-        }
+    if low == taken && group == low {
+        return;
     }
     turn_into_place(text, entry_start(spans, base, group, start, at), at, end);
 }
@@ -157,8 +146,5 @@ pub fn put_in_place(
     let own = span(text.len(), at, end);
     turn(text, spans, base, group, low, taken, start, at, end);
     spans[base + group] = own;
-    if group == low {
-        return low + 1;
-    }
-    low
+    if group == low { low + 1 } else { low }
 }

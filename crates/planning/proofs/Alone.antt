@@ -1,5 +1,5 @@
 -- A plan in a store of its own: it is right, and no row of the store is taken for a head. Assumes nothing.
-use mathlib.Core.Path.{◌≡◌, refl, sym, ◌∙◌}
+use mathlib.Core.Path.{◌≡◌, refl}
 use mathlib.Core.List.{List}
 use Prim.Native.Nat.{ℕ, ◌*◌, ◌≤◌, ◌<◌}
 use native.Mathlib.Decide.{dec_le}
@@ -11,15 +11,14 @@ use Rattle.graphql.specs.Lookup.{rows_in, selections_of}
 use Rattle.graphql.specs.Collect.{none_yet}
 use Rattle.graphql.specs.Request.{Request}
 use Rattle.graphql.specs.Complete.{merge_selection_sets}
-use Rattle.collecting.specs.Collecting.{CollectsRows}
+use Rattle.std.specs.Prelude.{Result, Ok, Err}
+use Rattle.codes.specs.declared.outcome.Outcome.{Outcome}
+use Rattle.collecting.specs.Collecting.{Collecting, CollectsRows}
 use Rattle.collecting.specs.declared.collect.Gathered.{Gathered}
-use Rattle.collecting.specs.declared.collect.Collecting.{Collecting}
-use Rattle.collecting.specs.declared.collect.Collecting.TheVariants.{On, TooFar, TooManyFields}
 use Rattle.collecting.proofs.Shown.{shows_none}
 use Rattle.planning.specs.Plans.{word_at, plan_end, Standing, Puttable, PutPlan, Gathers, Storable, PlansAlone, operation_of}
-use Rattle.planning.specs.declared.plan.Planned.{Planned}
-use Rattle.planning.specs.declared.plan.Planned.TheVariants as planned
-use Rattle.planning.proofs.Found.{Gathering, group_gathering, stopped_far, stopped_many, puttable, put_right}
+use Rattle.planning.specs.declared.plan.Plan.{Plan}
+use Rattle.planning.proofs.Found.{Gathering, group_gathering, stopped_so, puttable, put_right}
 
 nothing_stands : (Q : Request) (store : List ℕ) → Standing Q store 0
 nothing_stands Q store = record { there = omega arith; heads = λ plan l h. absurd (omega arith) }
@@ -27,27 +26,15 @@ nothing_stands Q store = record { there = omega arith; heads = λ plan l h. absu
 module _ {refs types members fields sets selections fragments nodes variables store : List ℕ} {object : ℕ} {set : Request → List ℕ}
     (w : Storable refs types fields sets selections fragments store object) {list : List ℕ} {r : Collecting}
     (c : Gathering types members sets selections fragments nodes variables set object r list) where
-  pub alone_far : r ≡ TooFar
-      → PlansAlone refs types members fields sets selections fragments nodes variables set object store planned.TooFar store
-  alone_far e = record {
-    sized = refl;
-    roomy = λ x. let z : ◌≡◌ {A = ℕ} 0 1 = cc in omega arith;
-    comes = λ Q t. stopped_far c t (nothing_stands Q store) e;
-  }
+  pub alone_stopped : {o : Outcome} → r ≡ Err o
+      → PlansAlone refs types members fields sets selections fragments nodes variables set object store (Err o) store
+  alone_stopped e = record { sized = refl; comes = λ Q t. stopped_so c t (nothing_stands Q store) e }
 
-  pub alone_many : r ≡ TooManyFields
-      → PlansAlone refs types members fields sets selections fragments nodes variables set object store planned.TooManyFields store
-  alone_many e = record {
-    sized = refl;
-    roomy = λ x. let z : ◌≡◌ {A = ℕ} 0 1 = cc in omega arith;
-    comes = λ Q t. stopped_many c t (nothing_stands Q store) e;
-  }
-
-  module _ {g : Gathered} (e : r ≡ On g) where
+  module _ {g : Gathered} (e : r ≡ Ok g) where
     pub alone_puttable : Puttable refs types fields selections list g.count 0 0 0 store
     alone_puttable = puttable c e w.fitting (omega (arith, w.room)) w.small (omega arith) (omega arith)
 
-    module _ {s : Planned} {store' : List ℕ} (q : PutPlan refs types fields selections list g.count 0 0 0 0 object store s store') where
+    module _ {s : Plan} {store' : List ℕ} (q : PutPlan refs types fields selections list g.count 0 0 0 0 object store s store') where
       there : 8 * plan_end store' 0 ≤ length store'
       there = omega (arith, q.ends, q.kept.sized, w.room)
 
@@ -56,10 +43,9 @@ module _ {refs types members fields sets selections fragments nodes variables st
       low row l (yes x) = let z : row ≡ 0 = omega arith in rw (z, q.head) (omega arith)
       low row l (no x) = q.holds.low row (omega arith) l
 
-      pub alone_made : PlansAlone refs types members fields sets selections fragments nodes variables set object store s store'
+      pub alone_made : PlansAlone refs types members fields sets selections fragments nodes variables set object store (Ok s) store'
       alone_made = record {
         sized = q.kept.sized;
-        roomy = λ x. let y = sym x ∙ q.is in let z : ◌≡◌ {A = ℕ} 0 1 = cc in omega arith;
         comes = λ Q t. rw q.is (record {
           further = omega arith;
           standing = record { there = there; heads = λ plan l h. absurd (omega (arith, low plan l (dec_le plan 0))) };
@@ -85,19 +71,16 @@ operation_gathering {sets} {selections} {fragments} c l = record {
 module _ {refs types members fields sets selections fragments nodes variables store : List ℕ} {object : ℕ} {rows : List ℕ}
     (w : Storable refs types fields sets selections fragments store object) {fresh list : List ℕ} {r : Collecting}
     (c : Gathers types members sets selections fragments nodes variables object rows fresh r list) where
-  abbrev Apart : (s : Planned) (store' : List ℕ) → Type 0
+  abbrev Apart : (s : Result Plan Outcome) (store' : List ℕ) → Type 0
   Apart s store' =
       PlansAlone refs types members fields sets selections fragments nodes variables (λ Q. merge_selection_sets Q rows) object store s store'
 
-  pub apart_far : r ≡ TooFar → Apart planned.TooFar store
-  apart_far = alone_far w (group_gathering c)
+  pub apart_stopped : {o : Outcome} → r ≡ Err o → Apart (Err o) store
+  apart_stopped = alone_stopped w (group_gathering c)
 
-  pub apart_many : r ≡ TooManyFields → Apart planned.TooManyFields store
-  apart_many = alone_many w (group_gathering c)
-
-  pub apart_puttable : {g : Gathered} → r ≡ On g → Puttable refs types fields selections list g.count 0 0 0 store
+  pub apart_puttable : {g : Gathered} → r ≡ Ok g → Puttable refs types fields selections list g.count 0 0 0 store
   apart_puttable = alone_puttable w (group_gathering c)
 
-  pub apart_made : {g : Gathered} {s : Planned} {store' : List ℕ} → r ≡ On g
-      → PutPlan refs types fields selections list g.count 0 0 0 0 object store s store' → Apart s store'
+  pub apart_made : {g : Gathered} {s : Plan} {store' : List ℕ} → r ≡ Ok g
+      → PutPlan refs types fields selections list g.count 0 0 0 0 object store s store' → Apart (Ok s) store'
   apart_made e q = alone_made w (group_gathering c) e q

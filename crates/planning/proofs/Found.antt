@@ -9,18 +9,17 @@ use lib.Dec.{eqb, ltb}
 use lib.ListN.{length, take, length-take}
 use borrow.Author.Tests.{eqb-true, ltb-true}
 use Rattle.rows.proofs.Every.{and_left, and_right}
-use Rattle.codes.specs.Outcome.{too_far, too_many_fields, most_open}
+use Rattle.std.specs.Prelude.{Some, None, Result, Ok, Err}
+use Rattle.codes.specs.declared.outcome.Outcome.{Outcome}
+use Rattle.codes.specs.Outcome.{code_of, most_open}
 use Rattle.graphql.specs.Run.{Choices, stop, after, pure, onward, ◌>>=◌}
 use Rattle.graphql.specs.Collect.{none_yet, collect}
 use Rattle.graphql.specs.Request.{Request}
 use Rattle.graphql.specs.Complete.{merge_selection_sets}
-use Rattle.collecting.specs.Collecting.{Comes, rows_done}
+use Rattle.collecting.specs.Collecting.{Collecting, Comes, rows_done}
 use Rattle.collecting.specs.declared.collect.Gathered.{Gathered}
-use Rattle.collecting.specs.declared.collect.Collecting.{Collecting}
-use Rattle.collecting.specs.declared.collect.Collecting.TheVariants.{On, TooFar, TooManyFields}
-use Rattle.planning.specs.Plans.{word_at, plan_end, most_words, members_of, document, PlanOf, Head, Standing, Fitting, Puttable, PutPlan, Gathers, Lookable, Plannable, Lent, Made, Stopped, Planning, PlansFor}
-use Rattle.planning.specs.declared.plan.Planned.{Planned}
-use Rattle.planning.specs.declared.plan.Planned.TheVariants as planned
+use Rattle.planning.specs.Plans.{word_at, plan_end, most_words, members_of, document, PlanOf, Head, Standing, Fitting, Puttable, PutPlan, Gathers, Lookable, Plannable, Lent, Made, Stopped, Planned, Planning, PlansFor, roomy}
+use Rattle.planning.specs.declared.plan.Plan.{Plan}
 use Rattle.planning.proofs.Standing.{members_on, groups_on, end_on, head_on}
 use Rattle.planning.proofs.Definitions.{groups_length, groups_few}
 
@@ -60,23 +59,18 @@ module _ {refs types members fields sets selections fragments nodes variables : 
       (c : Gathering types members sets selections fragments nodes variables set object r list) where
     module _ {Q : Request} (t : Lent refs types members fields sets selections fragments nodes variables Q) {plans plans' : List ℕ} {top : ℕ}
         (a : Standing Q plans' top) where
-      pub stopped_far : r ≡ TooFar → Stopped Q (set Q) plans top object too_far plans'
-      stopped_far e =
-          let d : Gathering types members sets selections fragments nodes variables set object TooFar list = rw e at c in
-          record { standing = a; stops = stops object too_far t (d.same Q t.same_sets t.same_selections) d.comes }
+      pub stopped_so : {o : Outcome} → r ≡ Err o → Stopped Q (set Q) plans top object (code_of o) plans'
+      stopped_so {o = why} e =
+          let d : Gathering types members sets selections fragments nodes variables set object (Err why) list = rw e at c in
+          record { standing = a; stops = stops object (code_of why) t (d.same Q t.same_sets t.same_selections) d.comes }
 
-      pub stopped_many : r ≡ TooManyFields → Stopped Q (set Q) plans top object too_many_fields plans'
-      stopped_many e =
-          let d : Gathering types members sets selections fragments nodes variables set object TooManyFields list = rw e at c in
-          record { standing = a; stops = stops object too_many_fields t (d.same Q t.same_sets t.same_selections) d.comes }
-
-    module _ {g : Gathered} (e : r ≡ On g) where
+    module _ {g : Gathered} (e : r ≡ Ok g) where
       -- what was gathered can be put
       pub puttable : {at parent group : ℕ} {plans : List ℕ} → Fitting refs types fields selections → 8 * (at + 256) ≤ length plans
           → length plans ≤ most_words → parent < most_words → group < most_words
           → Puttable refs types fields selections list g.count at parent group plans
       puttable fits room small p q =
-          let d : Gathering types members sets selections fragments nodes variables set object (On g) list = rw e at c in
+          let d : Gathering types members sets selections fragments nodes variables set object (Ok g) list = rw e at c in
           record {
             fitting = fits;
             field = d.comes.shows.fields;
@@ -89,13 +83,13 @@ module _ {refs types members fields sets selections fragments nodes variables : 
           }
 
       -- and a plan of it is right
-      pub put_right : {Q : Request} {at by parent group : ℕ} {plans : List ℕ} {s : Planned} {plans' : List ℕ}
+      pub put_right : {Q : Request} {at by parent group : ℕ} {plans : List ℕ} {s : Plan} {plans' : List ℕ}
           → Lent refs types members fields sets selections fragments nodes variables Q → 8 * plan_end plans' at ≤ length plans'
           → PutPlan refs types fields selections list g.count at by parent group object plans s plans'
           → PlanOf Q plans' (plan_end plans' at) at object (set Q)
       unfolding collect ◌>>=◌ onward pure after
       put_right {Q} {at} {plans' = plans'} t there q =
-          let d : Gathering types members sets selections fragments nodes variables set object (On g) list = rw e at c in
+          let d : Gathering types members sets selections fragments nodes variables set object (Ok g) list = rw e at c in
           record {
             ends = omega arith;
             there = there;
@@ -139,7 +133,7 @@ module _ (Q : Request) {plans : List ℕ} {top : ℕ} (parent group object : ℕ
       (room : 8 * (top + 256) ≤ length plans)
       {fresh list : List ℕ} {g : Gathered} {r : Collecting}
       (c : Gathers types members sets selections fragments nodes variables object (members_of plans parent group) fresh r list)
-      (o : r ≡ On g) {s : Planned} {plans' : List ℕ}
+      (o : r ≡ Ok g) {s : Plan} {plans' : List ℕ}
       (q : PutPlan refs types fields selections list g.count top (32768 + object) parent group object plans s plans') where
     abbrev end : ℕ
     end = plan_end plans' top
@@ -150,7 +144,7 @@ module _ (Q : Request) {plans : List ℕ} {top : ℕ} (parent group object : ℕ
     right : PlanOf Q plans' end top object (merge_selection_sets Q (members_of plans parent group))
     right = put_right (group_gathering c) o t there q
 
-    pub made_right : Planning Q (merge_selection_sets Q (members_of plans parent group)) plans top object s plans'
+    pub made_right : Planning Q (merge_selection_sets Q (members_of plans parent group)) plans top object (Ok (Some s)) plans'
     made_right = rw q.is (record {
       further = omega arith;
       standing = record { there = there; heads = λ plan l h. go plan l h (dec_le top plan) (dec_le plan top) };
@@ -176,55 +170,46 @@ module _ (Q : Request) {plans : List ℕ} {top : ℕ} (parent group object : ℕ
 
 module _ {refs types members fields sets selections fragments nodes variables plans : List ℕ} {top parent group object : ℕ}
     (w : Plannable refs types fields sets selections fragments plans top parent group object) where
-  pub plans_none : PlansFor refs types members fields sets selections fragments nodes variables plans top parent group object planned.NoRoom plans
+  pub plans_none : PlansFor refs types members fields sets selections fragments nodes variables plans top parent group object (Ok None) plans
   plans_none = record {
     kept = record { sized = refl; same = λ i l. refl };
-    small_plan = λ made top' e. absurd (let z : ◌≡◌ {A = ℕ} 0 1 = cc in omega arith);
+    small_plan = λ made e. absurd (let z : ◌≡◌ {A = ℕ} 0 1 = cc in omega arith);
     comes = λ Q t a. a;
   }
 
   pub plans_found : {row : ℕ} {r : Bool}
       → r ≡ (ltb row top && (eqb (word_at plans row 0) (32768 + object) && (eqb (word_at plans row 3) parent && eqb (word_at plans row 4) group)))
       → r ≡ true
-      → PlansFor refs types members fields sets selections fragments nodes variables plans top parent group object (planned.At row top) plans
+      → PlansFor refs types members fields sets selections fragments nodes variables plans top parent group object (Ok (Some (record { plan = row; top = top }))) plans
   plans_found {row = row'} e t =
       let l = ltb-true row' top (and_left (ltb row' top) _ (sym e ∙ t)) in
       record {
         kept = record { sized = refl; same = λ i l. refl };
-        small_plan = λ made top' s. let m : made ≡ row' = cc in omega (arith, w.there, w.small);
+        small_plan = λ made s. let m : made.plan ≡ row' = cc in omega (arith, w.there, w.small);
         comes = λ Q t' a. found_right Q parent group object a e t;
       }
 
-  pub plans_stopped : {fresh list : List ℕ} {r : Collecting}
-      → Gathers types members sets selections fragments nodes variables object (members_of plans parent group) fresh r list → r ≡ TooFar
-      → PlansFor refs types members fields sets selections fragments nodes variables plans top parent group object planned.TooFar plans
+  pub plans_stopped : {fresh list : List ℕ} {r : Collecting} {o : Outcome}
+      → Gathers types members sets selections fragments nodes variables object (members_of plans parent group) fresh r list → r ≡ Err o
+      → PlansFor refs types members fields sets selections fragments nodes variables plans top parent group object (Err o) plans
   plans_stopped c e = record {
     kept = record { sized = refl; same = λ i l. refl };
-    small_plan = λ made top' s. absurd (let z : ◌≡◌ {A = ℕ} 0 1 = cc in omega arith);
-    comes = λ Q t a. stopped_far (group_gathering c) t a e;
+    small_plan = λ made s. absurd (let z : ◌≡◌ {A = ℕ} 0 1 = cc in omega arith);
+    comes = λ Q t a. stopped_so (group_gathering c) t a e;
   }
 
-  pub plans_many : {fresh list : List ℕ} {r : Collecting}
-      → Gathers types members sets selections fragments nodes variables object (members_of plans parent group) fresh r list → r ≡ TooManyFields
-      → PlansFor refs types members fields sets selections fragments nodes variables plans top parent group object planned.TooManyFields plans
-  plans_many c e = record {
-    kept = record { sized = refl; same = λ i l. refl };
-    small_plan = λ made top' s. absurd (let z : ◌≡◌ {A = ℕ} 0 1 = cc in omega arith);
-    comes = λ Q t a. stopped_many (group_gathering c) t a e;
-  }
-
-  pub plans_made : {fresh list : List ℕ} {g : Gathered} {r : Collecting} {s : Planned} {plans' : List ℕ} → 8 * (top + 256) ≤ length plans
-      → Gathers types members sets selections fragments nodes variables object (members_of plans parent group) fresh r list → r ≡ On g
+  pub plans_made : {fresh list : List ℕ} {g : Gathered} {r : Collecting} {s : Plan} {plans' : List ℕ} → 8 * (top + 256) ≤ length plans
+      → Gathers types members sets selections fragments nodes variables object (members_of plans parent group) fresh r list → r ≡ Ok g
       → PutPlan refs types fields selections list g.count top (32768 + object) parent group object plans s plans'
-      → PlansFor refs types members fields sets selections fragments nodes variables plans top parent group object s plans'
-  plans_made room c e q = record {
+      → PlansFor refs types members fields sets selections fragments nodes variables plans top parent group object (Ok (Some s)) plans'
+  plans_made {s = put} room c e q = record {
     kept = q.kept;
-    small_plan = λ made top' s. let m = sym s ∙ q.is in let n : made ≡ top = cc in omega (arith, w.there, w.small, room);
+    small_plan = λ made s. let m : made ≡ put = cc in let n : made.plan ≡ top = rw (m, q.is) in omega (arith, w.there, w.small, room);
     comes = λ Q t a. made_right Q parent group object a t w room c e q;
   }
 
   pub gathered_puttable : {fresh list : List ℕ} {g : Gathered} {r : Collecting} → 8 * (top + 256) ≤ length plans
-      → Gathers types members sets selections fragments nodes variables object (members_of plans parent group) fresh r list → r ≡ On g
+      → Gathers types members sets selections fragments nodes variables object (members_of plans parent group) fresh r list → r ≡ Ok g
       → Puttable refs types fields selections list g.count top parent group plans
   gathered_puttable room c e =
       puttable (group_gathering c) e w.fitting room w.small (omega (arith, w.ends, w.there, w.small)) (omega
@@ -235,10 +220,10 @@ module _ {refs types members fields sets selections fragments nodes variables pl
       → r ≡ s → PlansFor refs types members fields sets selections fragments nodes variables plans top parent group object s plans'
   plans_as q e = rw (← e) q
 
-  pub made_fits : {r : Planned} {plans' : List ℕ} {made top' : ℕ}
-      → PlansFor refs types members fields sets selections fragments nodes variables plans top parent group object r plans' → r
-      ≡ planned.At made top' → made < 4294967296
-  made_fits {made = made'} {top' = top''} q e = omega (arith, q.small_plan made' top'' e)
+  pub made_fits : {r : Result Plan Outcome} {plans' : List ℕ} {made : Plan}
+      → PlansFor refs types members fields sets selections fragments nodes variables plans top parent group object (roomy r) plans'
+      → r ≡ Ok made → made.plan < 4294967296
+  made_fits {made = made'} q e = omega (arith, q.small_plan made' (rw e))
 
 pub looking_there : {refs types fields sets selections fragments plans : List ℕ} {top parent group object : ℕ}
     → Plannable refs types fields sets selections fragments plans top parent group object → Lookable plans parent group

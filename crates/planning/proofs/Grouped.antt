@@ -1,6 +1,7 @@
 -- Fields put to groups, one after the other: what the rows and the owners stand for. Assumes nothing.
 use mathlib.Core.Path.{◌≡◌, refl, sym, ap, ◌∙◌}
 use mathlib.Core.Bool.{Bool, true, false}
+use Rattle.std.specs.Prelude.{Option, Some, None}
 use mathlib.Core.List.{List, [], ◌∷◌, ◌++◌}
 use Prim.Native.Nat.{ℕ, zero, suc, ◌+◌, ◌*◌, ◌≤◌, ◌<◌}
 use native.Mathlib.Nat.{add-zero}
@@ -19,7 +20,7 @@ use Rattle.codes.specs.Outcome.{most_collected}
 use Rattle.graphql.specs.Collect.{Group, grouped}
 use Rattle.collecting.specs.Collecting.{FieldRow, groups_of}
 use Rattle.planning.specs.Expected.{Referred}
-use Rattle.planning.specs.Plans.{word_at, first_of, Kept, picked, rest, group_of, tabled, GroupRow, Which, PutRow, Groupable, owned, Grouping}
+use Rattle.planning.specs.Plans.{word_at, first_of, Kept, picked, rest, group_of, tabled, GroupRow, Which, FirstWith, PutRow, Groupable, owned, Grouping}
 
 -- ---- lists of groups
 
@@ -268,22 +269,21 @@ module _ {refs types fields selections list : List ℕ} {first : ℕ} (i : ℕ) 
     pub key_fits : field.key < 65536
     key_fits = let l = w.fitting.keyed (get_or list i 0) (w.field i (omega arith)) in rw e (omega arith)
 
-    module _ {groups to : ℕ} (h : Which plans first groups field.key to) where
-      which : Which plans first groups (field_selection selections (get_or list i 0)).key to
-      which = rw (← e) h
+    which : (groups : ℕ) {o o' : Option ℕ} → FirstWith plans first groups field.key o → o ≡ o'
+        → FirstWith plans first groups (field_selection selections (get_or list i 0)).key o'
+    which groups h q = rw (← e, ← q) h
 
-      pub field_old : {object : ℕ} → to < groups → (before : List ℕ)
+    module _ {groups : ℕ} {o : Option ℕ} (h : FirstWith plans first groups field.key o) where
+      pub field_old : {object to : ℕ} → o ≡ Some to → (before : List ℕ)
           → Grouping refs types fields selections list object first before plans owners groups i
           → Grouping refs types fields selections list object first before plans (set owners i to) groups (i + 1)
-      field_old l before a = grouping_old a (omega (arith, w.few)) w.listed to which l
+      field_old {to = to'} q before a = grouping_old a (omega (arith, w.few)) w.listed to' (which _ h q).1 (which _ h q).0
 
-      pub field_new : {object : ℕ} {plans' : List ℕ} → groups ≤ to
+      pub field_new : {object : ℕ} {plans' : List ℕ} → o ≡ None
           → PutRow refs types fields object (first + groups) (get_or list i 0) field plans plans'
           → (before : List ℕ) → Grouping refs types fields selections list object first before plans owners groups i
-          → Grouping refs types fields selections list object first before plans' (set owners i to) (groups + 1) (i + 1)
-      field_new l p before a =
-          let s : to ≡ groups = omega (arith, h.within) in
-          rw s (grouping_new a (omega (arith, w.few)) w.listed (rw s at which) (w.field i (omega arith)) e p)
+          → Grouping refs types fields selections list object first before plans' (set owners i groups) (groups + 1) (i + 1)
+      field_new q p before a = grouping_new a (omega (arith, w.few)) w.listed (which _ h q) (w.field i (omega arith)) e p
 
 pub ruleset putting = (types_referred, defined_few, word_fits, name_fits, key_fits, field_old, field_new)
 

@@ -12,25 +12,19 @@ use borrow.Author.Tests.{eq-eqb, ne_eqb}
 use Rattle.rows.specs.Document.{set_at, field_selection}
 use Rattle.rows.specs.declared.layout.Range.{Range}
 use Rattle.rows.specs.declared.document.FieldSelection.{FieldSelection}
-use types.Run.{miss}
-use borrow.Enum.Refused.{opened}
-use Rattle.codes.specs.Outcome.{too_far, too_many_fields, most_open}
+use Rattle.std.specs.Prelude.{Ok, Err}
+use Rattle.codes.specs.declared.outcome.Outcome.{Outcome}
+use Rattle.codes.specs.Outcome.{code_of, most_open}
 use Rattle.graphql.specs.Run.{Choices, Res, M, stop, failed, done, after, pure, onward, ◌>>=◌}
 use Rattle.graphql.specs.Lookup.{rows_in, selections_of}
 use Rattle.graphql.specs.Collect.{Collected, none_yet, collect_fields}
 use Rattle.graphql.specs.Complete.{merge_selection_sets}
-use Rattle.collecting.specs.Collecting.{Collectable, GoesOn, Comes, CollectsRows, selection_done, rows_done}
+use Rattle.collecting.specs.Collecting.{Collecting, Collectable, GoesOn, CollectsRows, selection_done, rows_done}
 use Rattle.collecting.specs.declared.collect.Gathered.{Gathered}
-use Rattle.collecting.specs.declared.collect.Collecting.{Collecting}
-use Rattle.collecting.specs.declared.collect.Collecting.TheVariants.{On, TooFar, TooManyFields}
 use Rattle.collecting.proofs.Shown.{shows_none}
-use Rattle.collecting.proofs.Ends.{stays, Stopped, went}
+use Rattle.collecting.proofs.Ends.{stays, went}
 use Rattle.collecting.proofs.Walk.{collect_on, set_within}
 use Rattle.planning.specs.Plans.{word_at, group_count, field_count, first_of, picked, fields_of, members_of, document, child_rows, CollectsChild, CollectsOwned, Gathers, Lookable, field_rows}
-
--- the numbers of the variants that do not go on
-abbrev stops : List ℕ
-stops = 1 ∷ 2 ∷ []
 
 -- ---- one after the other
 
@@ -90,7 +84,7 @@ module _ (sets selections : List ℕ) where
 
 module _ (types members sets selections fragments nodes variables : List ℕ) (object : ℕ) {list : List ℕ} {g : Gathered} where
   pub child_none : (row : ℕ) {field : FieldSelection} → field ≡ field_selection selections row → field.set ≡ 0
-      → CollectsChild types members sets selections fragments nodes variables object row list g (On g) list
+      → CollectsChild types members sets selections fragments nodes variables object row list g (Ok g) list
   unfolding collect_fields
   child_none row e z =
       let y : (field_selection selections row).set ≡ 0 = rw (← e) z in
@@ -112,7 +106,7 @@ module _ (types members sets selections fragments nodes variables : List ℕ) (o
       child_is field range e m t = rw (ne_eqb (field_selection selections row).set 0 m, ← e, ← t)
 
   pub owned_not : (plans : List ℕ) (row group : ℕ) {owner : ℕ} → owner ≡ word_at plans row 1 → (owner ≡ group → ⊥)
-      → CollectsOwned types members sets selections fragments nodes variables plans object row group list g (On g) list
+      → CollectsOwned types members sets selections fragments nodes variables plans object row group list g (Ok g) list
   unfolding collect_fields
   owned_not plans row group e n =
       let m : word_at plans row 1 ≡ group → ⊥ = rw (← e) n in
@@ -173,7 +167,7 @@ module _ (types members sets selections fragments nodes variables plans : List �
         (collect_append types members sets selections fragments nodes variables object (merged sets selections (those i)) next none_yet k
         ∙ went _ (λ d. rows types members sets selections fragments nodes variables object next d) a.gone.collected k (a.gone.is k))
 
-    pub merging_again : {g' : Gathered} → r ≡ On g' → Merging list' g' (i + 1)
+    pub merging_again : {g' : Gathered} → r ≡ Ok g' → Merging list' g' (i + 1)
     merging_again {g' = after'} e =
         let c : GoesOn selections fragments (rows types members sets selections fragments nodes variables object next
         a.gone.collected) after' list'
@@ -184,9 +178,11 @@ module _ (types members sets selections fragments nodes variables plans : List �
           gone = record { collected = c.collected; is = λ k. onto k ∙ c.is k; shows = c.shows };
         }
 
-    pub merging_stopped : Stopped r → Gathers types members sets selections fragments nodes variables object (those fields) list₀ r list'
+    pub merging_stopped : {o : Outcome} → r ≡ Err o
+        → Gathers types members sets selections fragments nodes variables object (those fields) list₀ (Err o) list'
     unfolding fields_of ◌>>=◌ onward
-    merging_stopped o = record { kept = q.kept ∙ a.kept; comes = go r o (q.collects a.gone.collected a.gone.shows) }
+    merging_stopped {o = why} e =
+        record { kept = q.kept ∙ a.kept; comes = all (code_of why) (rw e at (q.collects a.gone.collected a.gone.shows)) }
       where
         stop_on : (s k : _) (n d : ℕ)
             → rows types members sets selections fragments nodes variables object (merged sets selections (those n)) none_yet k ≡ stop s []
@@ -205,16 +201,8 @@ module _ (types members sets selections fragments nodes variables plans : List �
             let e : fields ≡ (i + 1) + (fields - (i + 1)) = omega arith in
             rw e (stop_on s k (i + 1) (fields - (i + 1)) (onto k ∙ h k))
 
-        go : (r : Collecting) → Stopped r
-            → Comes selections fragments (rows types members sets selections fragments nodes variables object next a.gone.collected) r list'
-            → Comes selections fragments (rows types members sets selections fragments nodes variables object (merged sets selections
-            (those fields)) none_yet) r list'
-        go (On g) o h = absurd (miss stops 0 tt (opened o))
-        go TooFar o h = all too_far h
-        go TooManyFields o h = all too_many_fields h
-
   pub merging_ended : {list : List ℕ} {g : Gathered} {i : ℕ} → Merging list g i → fields ≤ i
-      → Gathers types members sets selections fragments nodes variables object (those fields) list₀ (On g) list
+      → Gathers types members sets selections fragments nodes variables object (those fields) list₀ (Ok g) list
   merging_ended {i = i'} a l = let e : fields ≡ i' = omega (arith, a.below) in rw e (record { kept = a.kept; comes = a.gone })
 
 pub ruleset merging = (collect_on, merging_begin, merging_again, merging_stopped, merging_ended)

@@ -10,7 +10,6 @@ use lib.ListN.{length, get_or, take}
 use borrow.Author.Tests.{eq-eqb, ne_eqb}
 use Rattle.graphql.specs.Request.{Request}
 use Rattle.planning.specs.Plans.{word_at, group_count, field_count, first_of, field_rows, plan_end, Kept, picked, fields_of, members_of, group_of, group_at, groups_at, Holds, PlanOf, Head, Standing, owned, Grouping, PutFields, PutHead, Puttable, PutPlan}
-use Rattle.planning.specs.declared.plan.Planned.TheVariants as planned
 use Rattle.planning.proofs.Grouped.{tabled_same, picked_same, row_same, row_on}
 
 -- ---- words that are as before, in the rows of a plan
@@ -123,7 +122,7 @@ module _ {refs types fields selections list : List ℕ} {object at groups count 
     kept_so = record { sized = h.kept.sized ∙ a.kept.sized; same = λ i l. h.kept.same i l ∙ a.kept.same i (omega arith) }
 
     pub plan_single : groups ≡ count
-        → PutPlan refs types fields selections list count at by plan group object start (planned.At at (at + 1 + groups)) headed
+        → PutPlan refs types fields selections list count at by plan group object start (record { plan = at; top = at + 1 + groups }) headed
     unfolding field_rows members_of
     plan_single e =
         let end : plan_end headed at ≡ at + 1 + groups = rw (h.is_groups, h.is_fields, eq-eqb groups count e) (omega arith) in
@@ -162,7 +161,7 @@ module _ {refs types fields selections list : List ℕ} {object at groups count 
           (λ i. get_or owners i 0) count
           (λ i m. q.fields i m) (λ i m. q.owns i m))
 
-      pub plan_several : PutPlan refs types fields selections list count at by plan group object start (planned.At at (at + 1 + groups + count)) put
+      pub plan_several : PutPlan refs types fields selections list count at by plan group object start (record { plan = at; top = at + 1 + groups + count }) put
       plan_several = record {
         kept = record { sized = q.kept.sized ∙ kept_so.sized; same = λ i l. before_it i (omega arith) ∙ kept_so.same i l };
         is = rw its_end;

@@ -2,7 +2,7 @@
 use mathlib.Core.Path.{◌≡◌, refl, sym, ◌∙◌}
 use mathlib.Core.Bool.{Bool, false, ◌&&◌}
 use mathlib.Core.List.{List, [], ◌∷◌}
-use Rattle.std.specs.Prelude.{Option}
+use Rattle.std.specs.Prelude.{Option, Some, None}
 use Prim.Native.Nat.{ℕ, suc, ◌+◌, ◌*◌, ◌-◌, ◌≤◌, ◌<◌}
 use native.Mathlib.Decide.{dec_le}
 use native.Mathlib.Omega.{arith}
@@ -14,7 +14,7 @@ use Rattle.rows.specs.declared.document.FieldSelection.{FieldSelection}
 use Rattle.graphql.specs.Complete.{Definition, definition_of}
 use Rattle.planning.specs.Expected.{expected_of}
 use Rattle.planning.specs.declared.expected.Expected.{Expected}
-use Rattle.planning.specs.Plans.{word_at, definition_code, schema, Which, PutRow, PutHead, PutFields}
+use Rattle.planning.specs.Plans.{word_at, definition_code, schema, FirstWith, PutRow, PutHead, PutFields}
 
 unfoldable pub put_all : List ℕ → (at column : ℕ) → List ℕ → List ℕ
 put_all l at column [] = l
@@ -113,10 +113,10 @@ module _ (plans : List ℕ) (first groups key : ℕ) where
         go group k (yes x) z = let s : i ≡ group = omega arith in n (e ∙ (rw s z))
         go group k (no x) z = a.others group (omega arith) z
 
-    pub seek_found : got ≡ key → Which plans first groups key i
-    seek_found n = record { within = omega arith; others = a.others; found = λ k. sym e ∙ n }
+    pub seek_found : got ≡ key → FirstWith plans first groups key (Some i)
+    seek_found n = (l, record { within = omega arith; others = a.others; found = λ k. sym e ∙ n })
 
-  pub seek_none : {i : ℕ} → Seeking plans first groups key i → groups ≤ i → Which plans first groups key groups
+  pub seek_none : {i : ℕ} → Seeking plans first groups key i → groups ≤ i → FirstWith plans first groups key None
   seek_none {i} a l = record { within = omega arith; others = λ group k. a.others group (omega arith); found = λ k. absurd (omega arith) }
 
 pub ruleset seeking = (seek_begin, seek_next, seek_found, seek_none)

@@ -1,24 +1,23 @@
 -- Plans: what the rows of eight words of a lent array stand for. A plan's head says how many groups and fields it has; a row for each group
 -- follows and, where some group has more than one field, a row for each field. What stands is never changed.
 use Rattle.std.specs.Prelude.{◌≡◌, List, [], ◌∷◌, ◌++◌, cond, ℕ, zero, suc, ◌+◌, ◌*◌, ◌-◌, ◌≤◌, ◌<◌, eqb, length, get_or, take}
-use Rattle.std.specs.Prelude.{Option, Some, None}
+use Rattle.std.specs.Prelude.{Option, Some, None, Result, Ok, Err}
 use Rattle.rows.specs.Limits.{most_names, most_fields, most_types}
 use Rattle.rows.specs.Schema.{type_at}
 use Rattle.rows.specs.Document.{field_selection}
 use Rattle.rows.specs.declared.document.FieldSelection.{FieldSelection}
 use Rattle.tables.specs.Tables.{Tables, tables}
-use Rattle.codes.specs.Outcome.{too_far, too_many_fields, most_open, most_collected}
+use Rattle.codes.specs.declared.outcome.Outcome.{Outcome}
+use Rattle.codes.specs.Outcome.{code_of, most_open, most_collected}
 use Rattle.graphql.specs.Run.{Choices, stop, done}
 use Rattle.graphql.specs.Lookup.{selections_of}
 use Rattle.graphql.specs.Collect.{Group, none_yet, collect}
 use Rattle.graphql.specs.Request.{Request}
 use Rattle.graphql.specs.Complete.{Definition, typename, defined, merge_selection_sets, definition_of}
-use Rattle.collecting.specs.Collecting.{Collectable, FieldRow, groups_of, Collects, Comes, rows_done}
+use Rattle.collecting.specs.Collecting.{Collecting, Collectable, FieldRow, groups_of, Collects, Comes, rows_done}
 use Rattle.collecting.specs.declared.collect.Gathered.{Gathered}
-use Rattle.collecting.specs.declared.collect.Collecting.{Collecting}
 use Rattle.planning.specs.Expected.{Referred, expected_of}
-use Rattle.planning.specs.declared.plan.Planned.{Planned}
-use Rattle.planning.specs.declared.plan.Planned.TheVariants as planned
+use Rattle.planning.specs.declared.plan.Plan.{Plan}
 
 -- ---- The words
 
@@ -170,6 +169,11 @@ pub record Which (plans : List ℕ) (first groups key r : ℕ) : Type 0 where
   pub others : (group : ℕ) → group < r → word_at plans (first + group) 3 ≡ key → ⊥
   pub found : r < groups → word_at plans (first + r) 3 ≡ key
 
+-- that group, if one has the key
+abbrev pub FirstWith : (plans : List ℕ) (first groups key : ℕ) → Option ℕ → Type 0
+FirstWith plans first groups key (Some r) = (r < groups) × Which plans first groups key r
+FirstWith plans first groups key None = Which plans first groups key groups
+
 -- the row of a group is put, and what stands before it is as before
 pub record PutRow (refs types fields : List ℕ) (object row selection : ℕ) (field : FieldSelection) (plans plans' : List ℕ) : Type 0 where
   pub kept : Kept plans (8 * row) plans'
@@ -233,10 +237,10 @@ pub record Puttable (refs types fields selections list : List ℕ) (count at pla
   pub plan_small : plan < most_words
   pub group_small : group < most_words
 
-pub record PutPlan (refs types fields selections list : List ℕ) (count at by plan group object : ℕ) (plans : List ℕ) (r : Planned)
+pub record PutPlan (refs types fields selections list : List ℕ) (count at by plan group object : ℕ) (plans : List ℕ) (r : Plan)
     (plans' : List ℕ) : Type 0 where
   pub kept : Kept plans (8 * at) plans'
-  pub is : r ≡ planned.At at (plan_end plans' at)
+  pub is : r ≡ record { plan = at; top = plan_end plans' at }
   pub ends : plan_end plans' at ≤ at + 256
   pub head : word_at plans' at 0 ≡ by
   pub parent : word_at plans' at 3 ≡ plan
@@ -276,6 +280,15 @@ pub record Lookable (plans : List ℕ) (plan group : ℕ) : Type 0 where
 
 -- ---- Finding a plan, or making it
 
+-- a plan, or none where there is no room for it; or why its fields cannot be collected
+abbrev pub Planned : Type 0
+Planned = Result (Option Plan) Outcome
+
+-- the same of a plan for which there is room
+abbrev pub roomy : Result Plan Outcome → Planned
+roomy (Ok plan) = Ok (Some plan)
+roomy (Err o) = Err o
+
 pub record Plannable (refs types fields sets selections fragments plans : List ℕ) (top plan group object : ℕ) : Type 0 where
   pub fitting : Fitting refs types fields selections
   pub collectable : (list : List ℕ) → length list ≡ most_collected → Collectable types sets fragments list
@@ -311,15 +324,14 @@ module _ (Q : Request) (set plans : List ℕ) (top object : ℕ) where
         ≡ stop code []
 
   abbrev pub Planning : Planned → (plans' : List ℕ) → Type 0
-  Planning (planned.At plan top') plans' = Made plan top' plans'
-  Planning planned.NoRoom plans' = Standing Q plans' top
-  Planning planned.TooFar plans' = Stopped too_far plans'
-  Planning planned.TooManyFields plans' = Stopped too_many_fields plans'
+  Planning (Ok (Some made)) plans' = Made made.plan made.top plans'
+  Planning (Ok None) plans' = Standing Q plans' top
+  Planning (Err o) plans' = Stopped (code_of o) plans'
 
 pub record PlansFor (refs types members fields sets selections fragments nodes variables plans : List ℕ) (top plan group object : ℕ)
     (r : Planned) (plans' : List ℕ) : Type 0 where
   pub kept : Kept plans (8 * top) plans'
-  pub small_plan : (made top' : ℕ) → r ≡ planned.At made top' → made < most_words
+  pub small_plan : (made : Plan) → r ≡ Ok (Some made) → made.plan < most_words
   pub comes : (Q : Request) → Lent refs types members fields sets selections fragments nodes variables Q → Standing Q plans top
       → Planning Q (merge_selection_sets Q (members_of plans plan group)) plans top object r plans'
 
@@ -335,10 +347,10 @@ pub record Storable (refs types fields sets selections fragments store : List �
 
 -- the plan of these selections, or why they cannot be collected
 pub record PlansAlone (refs types members fields sets selections fragments nodes variables : List ℕ) (set : Request → List ℕ) (object : ℕ)
-    (store : List ℕ) (r : Planned) (store' : List ℕ) : Type 0 where
+    (store : List ℕ) (r : Result Plan Outcome) (store' : List ℕ) : Type 0 where
   pub sized : length store' ≡ length store
-  pub roomy : r ≡ planned.NoRoom → ⊥
-  pub comes : (Q : Request) → Lent refs types members fields sets selections fragments nodes variables Q → Planning Q (set Q) store 0 object r store'
+  pub comes : (Q : Request) → Lent refs types members fields sets selections fragments nodes variables Q
+      → Planning Q (set Q) store 0 object (roomy r) store'
 
 -- the operation's selections
 abbrev pub operation_of : Request → List ℕ

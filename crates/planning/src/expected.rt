@@ -6,11 +6,14 @@ ghost use Rattle.rows.specs.Limits.{most_types};
 ghost use Rattle.rows.specs.Rows.{rows_of};
 ghost use Rattle.graphql.specs.Lookup.{type_named};
 ghost use Rattle.planning.specs.Expected.{with', expected_named, expected_at, Referred};
+ghost use Rattle.tables.specs.Tables.{lent};
 
 use lookup::named::type_named;
 use rows::schema::{TypeKind, TypeRef, type_at, type_ref_at};
+use rows::tables::Tables;
 
-// Something that needs care; a leaf of a scalar (its name) or of an enum (its row); an object (its type); a list (the type of its items).
+// What is expected is said in the two words of a group's row, which is fixed memory: they are put there as they are, and no code takes a kind
+// apart from them again. Something that needs care; a leaf of a scalar (its name) or of an enum (its row); an object (its type); a list (the type of its items).
 pub const CARE: u16 = 0;
 
 pub const SCALAR: u16 = 1;
@@ -34,14 +37,8 @@ fn with(nullable: bool, what: u16, of: u32) -> Expected
     requires { (what < 8) × (of < 65536) }
     ensures { result ≡ with' nullable what of }
 {
-    if nullable {
-        return Expected {
-            what: what + NULLABLE,
-            of: of as u16,
-        };
-    }
     Expected {
-        what,
+        what: if nullable { what + NULLABLE } else { what },
         of: of as u16,
     }
 }
@@ -63,13 +60,13 @@ fn expected_of(types: &[u32], name: u32, nullable: bool) -> Expected
     }
 }
 
-pub fn expected_at(type_refs: &[u32], types: &[u32], ty: u32) -> Expected
-    requires { Referred type_refs.now types.now }
-    ensures { result ≡ expected_at types.now (type_ref_at type_refs.now ty) }
+pub fn expected_at(tables: &Tables, ty: u32) -> Expected
+    requires { let t = lent tables.now in Referred t.refs t.types }
+    ensures { let t = lent tables.now in result ≡ expected_at t.types (type_ref_at t.refs ty) }
 {
-    match type_ref_at(type_refs, ty) {
+    match type_ref_at(tables.type_refs, ty) {
         TypeRef::ListOf { inner, nullable } => with(nullable, LIST, inner),
-        TypeRef::Named { name, nullable } => expected_of(types, name, nullable),
+        TypeRef::Named { name, nullable } => expected_of(tables.types, name, nullable),
         TypeRef::Unknown => with(false, CARE, 0),
     }
 }

@@ -5,7 +5,8 @@ ghost use Rattle.rows.specs.Limits.{most_fields};
 ghost use Rattle.rows.specs.Schema.{type_at};
 ghost use Rattle.graphql.specs.Complete.{Definition, definition_of};
 ghost use Rattle.planning.specs.Expected.{Referred, expected_of};
-ghost use Rattle.planning.specs.Plans.{most_words, definition_code, schema, Which, PutRow, Groupable, Grouping, PutFields};
+ghost use Rattle.planning.specs.Plans.{most_words, definition_code, schema, FirstWith, PutRow, Groupable, Grouping, PutFields};
+ghost use Rattle.tables.specs.Tables.{lent};
 
 use crate::expected::{CARE, Expected, expected_at};
 use crate::layout::{
@@ -15,68 +16,68 @@ use crate::layout::{
 use lookup::named::field_named;
 use rows::document::{FieldSelection, field_selection};
 use rows::schema::field_at;
+use rows::tables::Tables;
 
 // `__typename`
 const TYPENAME_NAME: u32 = 0;
 
-fn definition_of(types: &[u32], fields: &[u32], object: u32, name: u32) -> u16
-    requires { (type_at types.now object).fields.first + (type_at types.now object).fields.count ≤ most_fields }
-    ensures { result ≡ definition_code (definition_of (schema types.now fields.now) object name) }
+fn definition_of(tables: &Tables, object: u32, name: u32) -> u16
+    requires { let t = lent tables.now in (type_at t.types object).fields.first + (type_at t.types object).fields.count ≤ most_fields }
+    ensures { let t = lent tables.now in result ≡ definition_code (definition_of (schema t.types t.fields) object name) }
 {
     if name == TYPENAME_NAME {
         return TYPENAME;
     }
-    match field_named(types, fields, object, name) {
+    match field_named(tables, object, name) {
         None => UNDEFINED,
         Some(row) => DEFINED + (row as u16),
     }
 }
 
-// Which of the groups from the row `first` on has the key; as many as there are, where none has.
-fn group_with(plans: &[u16], first: usize, groups: usize, key: u32) -> usize
+// Which of the groups from the row `first` on has the key, if one has. A loop of its own, as lookup's: with the library's `find` it takes more
+// than half as long again.
+fn group_with(plans: &[u16], first: usize, groups: usize, key: u32) -> Option<usize>
     requires { (8 * (first + groups) ≤ length plans.now) × (length plans.now ≤ most_words) }
-    ensures { Which plans.now first groups key result }
+    ensures { FirstWith plans.now first groups key result }
 {
     for i in 0..groups {
         if (word(plans, first + i, GROUP_KEY) as u32) == key {
-            return i;
+            return Some(i);
         }
     }
-    groups
+    None
 }
 
 // What is expected of a field that is defined and has no arguments.
-fn field_expected(type_refs: &[u32], types: &[u32], fields: &[u32], own: u16, ty: u32) -> Expected
-    requires { Referred type_refs.now types.now }
-    ensures { (d : Option Definition) → own ≡ definition_code d → result ≡ expected_of type_refs.now types.now fields.now d ty }
+fn field_expected(tables: &Tables, own: u16, ty: u32) -> Expected
+    requires { let t = lent tables.now in Referred t.refs t.types }
+    ensures { let t = lent tables.now in (d : Option Definition) → own ≡ definition_code d → result ≡ expected_of t.refs t.types t.fields d ty }
 {
     if own < DEFINED {
         return Expected { what: CARE, of: 0 };
     }
-    let def = field_at(fields, (own - DEFINED) as u32);
+    let def = field_at(tables.fields, (own - DEFINED) as u32);
     let arguments = def.arguments;
     if 0 < arguments.count {
         return Expected { what: CARE, of: 0 };
     }
-    expected_at(type_refs, types, ty)
+    expected_at(tables, ty)
 }
 
 fn put_group(
-    type_refs: &[u32],
-    types: &[u32],
-    fields: &[u32],
+    tables: &Tables,
     plans: &mut [u16],
     row: usize,
     selection: u16,
     field: FieldSelection,
     object: u32,
 )
-    requires referred { Referred type_refs.now types.now × ((type_at types.now object).fields.first + (type_at types.now object).fields.count ≤ most_fields) }
+    requires referred { let t = lent tables.now in Referred t.refs t.types × ((type_at t.types object).fields.first + (type_at t.types object).fields.count ≤ most_fields) }
     requires row_in_bounds { (8 * row + 8 ≤ length plans.old) × (field.name < 65536) × (field.key < 65536) }
-    ensures { PutRow type_refs.now types.now fields.now object row selection field plans.old plans.new }
+    ensures { let t = lent tables.now in PutRow t.refs t.types t.fields object row selection field plans.old plans.new }
 {
-    let own = definition_of(types, fields, object, field.name);
-    let wanted = field_expected(type_refs, types, fields, own, field.ty);
+    let own = definition_of(tables, object, field.name);
+    let wanted = field_expected(tables, own, field.ty);
     let at = WIDTH * row;
     plans[at + GROUP_FIRST] = selection;
     plans[at + GROUP_DEFINITION] = own;
@@ -88,10 +89,7 @@ fn put_group(
 
 // One field put to the groups that stand from the row `first` on: to the one that has its key, or to a new one behind them.
 fn put_field(
-    type_refs: &[u32],
-    types: &[u32],
-    fields: &[u32],
-    selections: &[u32],
+    tables: &Tables,
     plans: &mut [u16],
     list: &[u16],
     owners: &mut [u16],
@@ -100,35 +98,23 @@ fn put_field(
     i: usize,
     object: u32,
 ) -> usize
-    requires { Groupable type_refs.now types.now fields.now selections.now list.now first (i + 1) plans.old owners.old × (groups ≤ i) }
-    ensures { (before : List ℕ) → Grouping type_refs.now types.now fields.now selections.now list.now object first before plans.old owners.old groups i → Grouping type_refs.now types.now fields.now selections.now list.now object first before plans.new owners.new result (i + 1) }
+    requires { let t = lent tables.now in Groupable t.refs t.types t.fields t.selections list.now first (i + 1) plans.old owners.old × (groups ≤ i) }
+    ensures { let t = lent tables.now in (before : List ℕ) → Grouping t.refs t.types t.fields t.selections list.now object first before plans.old owners.old groups i → Grouping t.refs t.types t.fields t.selections list.now object first before plans.new owners.new result (i + 1) }
 {
     let selection = list[i];
-    let field = field_selection(selections, selection as u32);
-    let group = group_with(plans, first, groups, field.key);
-    owners[i] = group as u16;
-    if group < groups {
+    let field = field_selection(tables.selections, selection as u32);
+    if let Some(group) = group_with(plans, first, groups, field.key) {
+        owners[i] = group as u16;
         return groups;
     }
-    put_group(
-        type_refs,
-        types,
-        fields,
-        plans,
-        first + groups,
-        selection,
-        field,
-        object,
-    );
+    owners[i] = groups as u16;
+    put_group(tables, plans, first + groups, selection, field, object);
     groups + 1
 }
 
 // The groups of the fields in the list, from the row `first` on: "Groups stand in order of first appearance of the response key."
 pub fn put_groups(
-    type_refs: &[u32],
-    types: &[u32],
-    fields: &[u32],
-    selections: &[u32],
+    tables: &Tables,
     plans: &mut [u16],
     list: &[u16],
     owners: &mut [u16],
@@ -136,14 +122,12 @@ pub fn put_groups(
     count: usize,
     object: u32,
 ) -> usize
-    requires { Groupable type_refs.now types.now fields.now selections.now list.now first count plans.old owners.old }
-    ensures { Grouping type_refs.now types.now fields.now selections.now list.now object first plans.old plans.new owners.new result count }
+    requires { let t = lent tables.now in Groupable t.refs t.types t.fields t.selections list.now first count plans.old owners.old }
+    ensures { let t = lent tables.now in Grouping t.refs t.types t.fields t.selections list.now object first plans.old plans.new owners.new result count }
 {
     let mut groups: usize = 0;
     for i in 0..count {
-        groups = put_field(
-            type_refs, types, fields, selections, plans, list, owners, first, groups, i, object,
-        );
+        groups = put_field(tables, plans, list, owners, first, groups, i, object);
     }
     groups
 }

@@ -45,7 +45,8 @@ pub const FIELD_SELECTION: usize = 0;
 
 pub const FIELD_GROUP: usize = 1;
 
-// A group's definition: none, `__typename`, or 2 and a row of the fields.
+// A group's definition: none, `__typename`, or 2 and a row of the fields. It stays the word that stands in the group's row, which is fixed memory:
+// it goes from there to the one place that asks which of the three it is, and an enum would have to be told from it by the same tests first.
 pub const UNDEFINED: u16 = 0;
 
 pub const TYPENAME: u16 = 1;

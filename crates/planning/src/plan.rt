@@ -1,22 +1,23 @@
 // The plan for a group and an object type: found again, or made.
 ghost use Rattle.std.specs.Prelude.{◌≡◌, ◌&&◌, ◌+◌, ◌*◌, ◌%◌, ◌≤◌, ◌<◌, eqb, ltb, length};
 ghost use Rattle.rows.specs.Limits.{most_types};
-ghost use Rattle.planning.specs.Plans.{word_at, most_words, PutHead, Puttable, PutPlan, Lookable, PlansFor, Plannable, Storable, operation_of, beneath_group, PlansAlone};
+ghost use Rattle.planning.specs.Plans.{word_at, most_words, PutHead, Puttable, PutPlan, Lookable, PlansFor, Plannable, Storable, operation_of, beneath_group, PlansAlone, roomy};
+ghost use Rattle.tables.specs.Tables.{lent};
 
 use crate::beneath::{collect_group, collect_operation};
 use crate::groups::{put_fields, put_groups};
 use crate::layout::{
     HEAD, HEAD_FIELDS, HEAD_GROUP, HEAD_GROUPS, HEAD_PLAN, HEAD_TYPE, MOST_PLAN_ROWS, WIDTH, word,
 };
-use collecting::collect::Collecting;
+use codes::outcome::Outcome;
+use collecting::collect::MOST_COLLECTED;
+use rows::tables::Tables;
 
-// A plan and the rows that stand; or collecting stops; or there is no room for a plan.
+// The row of a plan, and how many rows stand.
 #[derive(Clone, Copy)]
-pub enum Planned {
-    At { plan: usize, top: usize },
-    NoRoom,
-    TooFar,
-    TooManyFields,
+pub struct Plan {
+    pub plan: usize,
+    pub top: usize,
 }
 
 fn put_head(
@@ -40,10 +41,7 @@ fn put_head(
 
 // A plan of the fields in the list, put at the row `at`; `by` is the first word of its head.
 fn put_plan(
-    type_refs: &[u32],
-    types: &[u32],
-    fields: &[u32],
-    selections: &[u32],
+    tables: &Tables,
     plans: &mut [u16],
     list: &[u16],
     count: usize,
@@ -52,55 +50,33 @@ fn put_plan(
     plan: usize,
     group: usize,
     object: u32,
-) -> Planned
-    requires { Puttable type_refs.now types.now fields.now selections.now list.now count at plan group plans.old }
-    ensures { PutPlan type_refs.now types.now fields.now selections.now list.now count at by plan group object plans.old result plans.new }
+) -> Plan
+    requires { let t = lent tables.now in Puttable t.refs t.types t.fields t.selections list.now count at plan group plans.old }
+    ensures { let t = lent tables.now in PutPlan t.refs t.types t.fields t.selections list.now count at by plan group object plans.old result plans.new }
 {
-    let mut owners = [0u16; 128];
+    let mut owners = [0u16; MOST_COLLECTED];
     let first = at + 1;
-    let groups = put_groups(
-        type_refs,
-        types,
-        fields,
-        selections,
-        plans,
-        list,
-        &mut owners,
-        first,
-        count,
-        object,
-    );
+    let groups = put_groups(tables, plans, list, &mut owners, first, count, object);
     put_head(plans, at, by, groups, count, plan, group);
     if groups == count {
-        return Planned::At {
+        return Plan {
             plan: at,
             top: first + groups,
         };
     }
     put_fields(plans, list, &owners, first + groups, count);
-    Planned::At {
+    Plan {
         plan: at,
         top: first + groups + count,
     }
 }
 
 // The plan of a set by itself, at the beginning of a store: the operation's, or one that found no room.
-fn plan_set(
-    type_refs: &[u32],
-    types: &[u32],
-    fields: &[u32],
-    selections: &[u32],
-    plans: &mut [u16],
-    list: &[u16],
-    count: usize,
-    object: u32,
-) -> Planned
-    requires { Puttable type_refs.now types.now fields.now selections.now list.now count 0 0 0 plans.old }
-    ensures { PutPlan type_refs.now types.now fields.now selections.now list.now count 0 0 0 0 object plans.old result plans.new }
+fn plan_set(tables: &Tables, plans: &mut [u16], list: &[u16], count: usize, object: u32) -> Plan
+    requires { let t = lent tables.now in Puttable t.refs t.types t.fields t.selections list.now count 0 0 0 plans.old }
+    ensures { let t = lent tables.now in PutPlan t.refs t.types t.fields t.selections list.now count 0 0 0 0 object plans.old result plans.new }
 {
-    put_plan(
-        type_refs, types, fields, selections, plans, list, count, 0, 0, 0, 0, object,
-    )
+    put_plan(tables, plans, list, count, 0, 0, 0, 0, object)
 }
 
 // Where to look for the plan of a group and a type; any place would do.
@@ -132,167 +108,78 @@ pub fn is_plan_for(
     false
 }
 
+// Behind all plans that stand; or why collecting stops.
 fn make_plan(
-    type_refs: &[u32],
-    types: &[u32],
-    members: &[u32],
-    fields: &[u32],
-    sets: &[u32],
-    selections: &[u32],
-    fragments: &[u32],
-    nodes: &[u32],
-    variables: &[u32],
+    tables: &Tables,
     plans: &mut [u16],
     top: usize,
     plan: usize,
     group: usize,
     object: u32,
-) -> Planned
-    requires { Plannable type_refs.now types.now fields.now sets.now selections.now fragments.now plans.old top plan group object × (8 * (top + 256) ≤ length plans.old) }
-    ensures { PlansFor type_refs.now types.now members.now fields.now sets.now selections.now fragments.now nodes.now variables.now plans.old top plan group object result plans.new }
+) -> Result<Plan, Outcome>
+    requires { let t = lent tables.now in Plannable t.refs t.types t.fields t.sets t.selections t.fragments plans.old top plan group object × (8 * (top + 256) ≤ length plans.old) }
+    ensures { let t = lent tables.now in PlansFor t.refs t.types t.members t.fields t.sets t.selections t.fragments t.nodes t.variables plans.old top plan group object (roomy result) plans.new }
 {
-    let mut list = [0u16; 128];
-    let collecting = collect_group(
-        types, members, sets, selections, fragments, nodes, variables, plans, &mut list, object,
-        plan, group,
-    );
-    match collecting {
-        Collecting::TooFar => Planned::TooFar,
-        Collecting::TooManyFields => Planned::TooManyFields,
-        Collecting::On(gathered) => put_plan(
-            type_refs,
-            types,
-            fields,
-            selections,
-            plans,
-            &list,
-            gathered.count,
-            top,
-            HEAD + (object as u16),
-            plan,
-            group,
-            object,
-        ),
-    }
+    let mut list = [0u16; MOST_COLLECTED];
+    let gathered = collect_group(tables, plans, &mut list, object, plan, group)?;
+    let by = HEAD + (object as u16);
+    let count = gathered.count;
+    Ok(put_plan(tables, plans, &list, count, top, by, plan, group, object))
 }
 
-// The plan for a group of a plan and an object type: the one that stands, or a new one behind all that stand.
+// The plan for a group of a plan and an object type: the one that stands, or a new one behind all that stand; none where there is no room for
+// it.
 pub fn plan_for(
-    type_refs: &[u32],
-    types: &[u32],
-    members: &[u32],
-    fields: &[u32],
-    sets: &[u32],
-    selections: &[u32],
-    fragments: &[u32],
-    nodes: &[u32],
-    variables: &[u32],
+    tables: &Tables,
     plans: &mut [u16],
     hints: &mut [u32],
     top: usize,
     plan: usize,
     group: usize,
     object: u32,
-) -> Planned
-    requires { Plannable type_refs.now types.now fields.now sets.now selections.now fragments.now plans.old top plan group object × (length hints.old ≡ 1024) }
-    ensures { PlansFor type_refs.now types.now members.now fields.now sets.now selections.now fragments.now nodes.now variables.now plans.old top plan group object result plans.new }
+) -> Result<Option<Plan>, Outcome>
+    requires { let t = lent tables.now in Plannable t.refs t.types t.fields t.sets t.selections t.fragments plans.old top plan group object × (length hints.old ≡ 1024) }
+    ensures { let t = lent tables.now in PlansFor t.refs t.types t.members t.fields t.sets t.selections t.fragments t.nodes t.variables plans.old top plan group object result plans.new }
 {
     let slot = hint_at(plan, group, object);
     let hint = hints[slot] as usize;
     if is_plan_for(plans, top, hint, plan, group, object) {
-        return Planned::At {
+        return Ok(Some(Plan {
             plan: hint,
             top: top,
-        };
+        }));
     }
     if plans.len() < WIDTH * (top + MOST_PLAN_ROWS) {
-        return Planned::NoRoom;
+        return Ok(None);
     }
-    let planned = make_plan(
-        type_refs, types, members, fields, sets, selections, fragments, nodes, variables, plans,
-        top, plan, group, object,
-    );
-    let Planned::At { plan: made, top: _ } = planned else {
-        return planned;
-    };
-    hints[slot] = made as u32;
-    planned
+    let made = make_plan(tables, plans, top, plan, group, object)?;
+    hints[slot] = made.plan as u32;
+    Ok(Some(made))
 }
 
 // The plan of the operation's own set, at the beginning of a store.
-pub fn plan_operation(
-    type_refs: &[u32],
-    types: &[u32],
-    members: &[u32],
-    fields: &[u32],
-    sets: &[u32],
-    selections: &[u32],
-    fragments: &[u32],
-    nodes: &[u32],
-    variables: &[u32],
-    store: &mut [u16],
-    object: u32,
-) -> Planned
-    requires { Storable type_refs.now types.now fields.now sets.now selections.now fragments.now store.old object }
-    ensures { PlansAlone type_refs.now types.now members.now fields.now sets.now selections.now fragments.now nodes.now variables.now operation_of object store.old result store.new }
+pub fn plan_operation(tables: &Tables, store: &mut [u16], object: u32) -> Result<Plan, Outcome>
+    requires { let t = lent tables.now in Storable t.refs t.types t.fields t.sets t.selections t.fragments store.old object }
+    ensures { let t = lent tables.now in PlansAlone t.refs t.types t.members t.fields t.sets t.selections t.fragments t.nodes t.variables operation_of object store.old result store.new }
 {
-    let mut list = [0u16; 128];
-    let collecting = collect_operation(
-        types, members, sets, selections, fragments, nodes, variables, &mut list, object,
-    );
-    match collecting {
-        Collecting::TooFar => Planned::TooFar,
-        Collecting::TooManyFields => Planned::TooManyFields,
-        Collecting::On(gathered) => plan_set(
-            type_refs,
-            types,
-            fields,
-            selections,
-            store,
-            &list,
-            gathered.count,
-            object,
-        ),
-    }
+    let mut list = [0u16; MOST_COLLECTED];
+    let gathered = collect_operation(tables, &mut list, object)?;
+    Ok(plan_set(tables, store, &list, gathered.count, object))
 }
 
 // The plan for a group of a plan and an object type, at the beginning of a store of its own.
 pub fn plan_apart(
-    type_refs: &[u32],
-    types: &[u32],
-    members: &[u32],
-    fields: &[u32],
-    sets: &[u32],
-    selections: &[u32],
-    fragments: &[u32],
-    nodes: &[u32],
-    variables: &[u32],
+    tables: &Tables,
     plans: &[u16],
     store: &mut [u16],
     plan: usize,
     group: usize,
     object: u32,
-) -> Planned
-    requires { Storable type_refs.now types.now fields.now sets.now selections.now fragments.now store.old object × Lookable plans.now plan group }
-    ensures { PlansAlone type_refs.now types.now members.now fields.now sets.now selections.now fragments.now nodes.now variables.now (beneath_group plans.now plan group) object store.old result store.new }
+) -> Result<Plan, Outcome>
+    requires { let t = lent tables.now in Storable t.refs t.types t.fields t.sets t.selections t.fragments store.old object × Lookable plans.now plan group }
+    ensures { let t = lent tables.now in PlansAlone t.refs t.types t.members t.fields t.sets t.selections t.fragments t.nodes t.variables (beneath_group plans.now plan group) object store.old result store.new }
 {
-    let mut list = [0u16; 128];
-    let collecting = collect_group(
-        types, members, sets, selections, fragments, nodes, variables, plans, &mut list, object,
-        plan, group,
-    );
-    match collecting {
-        Collecting::TooFar => Planned::TooFar,
-        Collecting::TooManyFields => Planned::TooManyFields,
-        Collecting::On(gathered) => plan_set(
-            type_refs,
-            types,
-            fields,
-            selections,
-            store,
-            &list,
-            gathered.count,
-            object,
-        ),
-    }
+    let mut list = [0u16; MOST_COLLECTED];
+    let gathered = collect_group(tables, plans, &mut list, object, plan, group)?;
+    Ok(plan_set(tables, store, &list, gathered.count, object))
 }

@@ -8,7 +8,7 @@ use native.Mathlib.Omega.{arith}
 use lib.Dec.{leb}
 use Rattle.rows.specs.declared.layout.Range.{Range}
 use Rattle.codes.specs.Errors.{place_of}
-use Rattle.codes.specs.Outcome.{too_far, variable_in_literal, most_open}
+use Rattle.codes.specs.Outcome.{code_of, too_far, most_open}
 use Rattle.graphql.specs.Run.{here, Event, Choices, Res, M, pure, halt, fail, when, onward, ◌>>=◌}
 use Rattle.graphql.specs.Run as run
 use Rattle.graphql.specs.Data.{Val}
@@ -24,20 +24,20 @@ use Rattle.graphql.specs.Complete as defined
 use Rattle.input_coercion.specs.Ends.{Checks}
 use Rattle.input_coercion.specs.Coerced.{of_arguments}
 use Rattle.input_coercion.specs.declared.check.Failure.{Failure}
-use Rattle.input_coercion.specs.declared.check.Coercion.{Coercion}
-use Rattle.input_coercion.specs.declared.check.Coercion.TheVariants as coercion
+use Rattle.input_coercion.specs.Ends.{Coercion}
+use Rattle.input_coercion.specs.declared.check.Uncoerced.{Uncoerced}
+use Rattle.input_coercion.specs.declared.check.Uncoerced.TheVariants as uncoerced
+use Rattle.codes.specs.declared.outcome.Outcome.{Outcome}
+use Rattle.codes.specs.declared.errors.FieldError.TheVariants as error
+use Rattle.std.specs.Prelude.{Ok, Err}
 use Rattle.walking.specs.declared.path.Path.{Path}
 use Rattle.walking.proofs.RunLaws.{bind_at}
 use Rattle.resolving.specs.Sound.{asking}
-use Rattle.resolving.specs.Resolve.{Asks, leaf_taken, leaf_completed, Gave, GaveValue, ResolvesRow}
-use Rattle.resolving.specs.Field.{noting, beneath, Completing, Answering, answered_of, ResolvesField, AnswersField, Resolvable}
+use Rattle.resolving.specs.Resolve.{Resolved, Asks, leaf_taken, leaf_completed, Gave, GaveValue, ResolvesRow}
+use Rattle.resolving.specs.Field.{Answered, noting, beneath, Completing, Answering, answered_of, ResolvesField, AnswersField, Resolvable}
 use Rattle.resolving.specs.declared.resolve.Asked.{Asked}
 use Rattle.resolving.specs.declared.resolve.Given.{Given}
 use Rattle.resolving.specs.declared.resolve.Given.TheVariants as value
-use Rattle.resolving.specs.declared.resolve.Resolved.{Resolved}
-use Rattle.resolving.specs.declared.resolve.Resolved.TheVariants as resolved
-use Rattle.resolving.specs.declared.field.Answered.{Answered}
-use Rattle.resolving.specs.declared.field.Answered.TheVariants as answer
 use Rattle.resolving.proofs.Stepping.{nullify_same, nullify_halt}
 
 -- ---- what comes first and ends
@@ -71,11 +71,11 @@ found (Some row') e = cc
 
 module _ {arguments gives literals variables answers : List ℕ} {asked : Asked} {rows : Range} {name : ℕ} {o : Option ℕ}
     (n : o ≡ (field_answer answers rows name)) where
-  pub field_unanswered : o ≡ None → ResolvesField arguments gives literals variables answers asked rows name resolved.Error
+  pub field_unanswered : o ≡ None → ResolvesField arguments gives literals variables answers asked rows name (Err error.Resolver)
   unfolding resolve_field_value answered
   field_unanswered e = record {
     gave = λ pool names refs types members fields sets selections fragments nodes v g args a.
-        rw (not_found (field_answer answers rows name) (sym e ∙ n)) (λ k. refl);
+        rw (not_found (field_answer answers rows name) (sym e ∙ n)) (refl, λ k. refl);
   }
 
   pub field_resolved : {row : ℕ} {r : Resolved} → o ≡ Some row → ResolvesRow arguments gives literals variables answers asked row r
@@ -116,9 +116,9 @@ module _ (Q : Request) (path : Path) (asked : Asked) (g : Group) (p : run.Path) 
   pub resolved_answering : (m : M defined.Resolved) (r : Resolved) → asked.place ≡ field_place Q g → Gave Q m r
       → Answering Q path asked g p (m >>= λ r. complete_resolved Q (beneath Q path asked g) ty r g args p) ty (answered_of asked.place r)
   unfolding complete_resolved field_error error_of place_among place_of
-  resolved_answering m resolved.Skip at h = λ k. pure_bind_at m _ k (h k)
-  resolved_answering m resolved.Error at h = λ k. pure_bind_at m _ k (h k) ∙ rw at
-  resolved_answering m (resolved.Given v) at h = given_completing m v h
+  resolved_answering m (Ok None) at h = λ k. pure_bind_at m _ k (h k)
+  resolved_answering m (Ok (Some v)) at h = given_completing m v h
+  resolved_answering m (Err e) at h = λ k. pure_bind_at m _ k (h.1 k) ∙ rw (at, h.0)
 
   -- ---- an item: what may be null is nulled within
 
@@ -163,39 +163,37 @@ module _ (Q : Request) (path : Path) (asked : Asked) (g : Group) (p : run.Path) 
   completing_same (value.Object name rows) h = record { within = h.within; args = h.args; asks = h.asks; is = λ k. same k ∙ h.is k }
 
   answering_same : (a : Answered) → Answering Q path asked g p n ty a → Answering Q path asked g p m ty a
-  answering_same answer.Skip h = λ k. same k ∙ h k
-  answering_same (answer.Given v) h = completing_same v h
-  answering_same (answer.Failed e place) h = λ k. same k ∙ h k
-  answering_same (answer.Stop code) h = λ k. same k ∙ h k
+  answering_same (Ok None) h = λ k. same k ∙ h k
+  answering_same (Ok (Some v)) h = completing_same v h
+  answering_same (Err (uncoerced.Failed f)) h = λ k. same k ∙ h k
+  answering_same (Err (uncoerced.Stop o)) h = λ k. same k ∙ h k
 
 -- ---- the arguments of a field, and its answer
 
 module _ {refs types fields arguments gives nodes literals variables answers : List ℕ} {asked : Asked} {rows : Range} {name : ℕ} {r : Coercion}
     (h : Checks (of_arguments refs types fields nodes literals variables arguments gives asked.definitions asked.written) r) where
-  pub arguments_fail : {f : Failure} → r ≡ coercion.Failed f
-      → AnswersField refs types fields arguments gives nodes literals variables answers asked rows name (answer.Failed f.error f.place)
+  pub arguments_fail : {f : Failure} → r ≡ Err (uncoerced.Failed f)
+      → AnswersField refs types fields arguments gives nodes literals variables answers asked rows name (Err (uncoerced.Failed f))
   unfolding of_arguments coerce_arguments
   arguments_fail {f} e = record {
     comes = λ pool names members sets selections fragments path g p ty at k.
         fail_bind _ _ k (noting f.error f.place p) ((rw e at (h.ends pool names p)) k);
   }
 
-  pub arguments_too_far : {code : ℕ} → r ≡ coercion.TooFar → code ≡ too_far
-      → AnswersField refs types fields arguments gives nodes literals variables answers asked rows name (answer.Stop code)
+  pub arguments_stop : {o : Outcome} → r ≡ Err (uncoerced.Stop o)
+      → AnswersField refs types fields arguments gives nodes literals variables answers asked rows name (Err (uncoerced.Stop o))
   unfolding of_arguments coerce_arguments
-  arguments_too_far e c = rw c (record {
-    comes = λ pool names members sets selections fragments path g p ty at k. halt_bind _ _ k too_far ((rw e at (h.ends pool names p)) k);
-  })
+  arguments_stop {o} e = record {
+    comes = λ pool names members sets selections fragments path g p ty at k. halt_bind _ _ k (code_of o) ((rw e at (h.ends pool names p)) k);
+  }
 
-  pub arguments_variable : {code : ℕ} → r ≡ coercion.VariableInLiteral → code ≡ variable_in_literal
-      → AnswersField refs types fields arguments gives nodes literals variables answers asked rows name (answer.Stop code)
-  unfolding of_arguments coerce_arguments
-  arguments_variable e c = rw c (record {
-    comes = λ pool names members sets selections fragments path g p ty at k.
-        halt_bind _ _ k variable_in_literal ((rw e at (h.ends pool names p)) k);
-  })
+  -- what has no value goes on as it is
+  pub arguments_lost : {u : Uncoerced} → r ≡ Err u
+      → AnswersField refs types fields arguments gives nodes literals variables answers asked rows name (Err u)
+  arguments_lost {u = uncoerced.Failed f} e = arguments_fail e
+  arguments_lost {u = uncoerced.Stop o} e = arguments_stop e
 
-  pub arguments_coerced : {v : Resolved} {a : Answered} → Resolvable arguments nodes answers asked → r ≡ coercion.Value
+  pub arguments_coerced : {v : Resolved} {a : Answered} → Resolvable arguments nodes answers asked → {t : _} → r ≡ Ok t
       → ResolvesField arguments gives literals variables answers asked rows name v → a ≡ answered_of asked.place v
       → AnswersField refs types fields arguments gives nodes literals variables answers asked rows name a
   unfolding of_arguments coerce_arguments pure

@@ -19,16 +19,16 @@ use Rattle.walking.specs.declared.path.Path.{Path}
 use Rattle.walking.specs.declared.state.State.{State}
 use Rattle.walking.specs.declared.state.Kind.TheVariants.{LeftOut}
 use Rattle.walking.specs.declared.state.Failure.TheVariants.{Here, Stop}
-use Rattle.walking.specs.declared.state.Completed.TheVariants.{Placed, Fails}
+use Rattle.std.specs.Prelude.{Some, None, Ok, Err}
+use Rattle.codes.specs.declared.outcome.Outcome.{Outcome}
+use Rattle.input_coercion.specs.declared.check.Failure.{Failure}
+use Rattle.input_coercion.specs.declared.check.Uncoerced.TheVariants as uncoerced
 use Rattle.walking.specs.declared.state.Done.{Done}
 use Rattle.resolving.specs.Resolve.{CompletesAt}
-use Rattle.resolving.specs.Field.{Finishes, OpensList, OpensObject, OpensBehind, CompletesBehind, AnswersBehind, TypenameBehind, typename_in}
+use Rattle.resolving.specs.Field.{Opened, Answered, Finishes, OpensList, OpensObject, OpensBehind, CompletesBehind, AnswersBehind, TypenameBehind, typename_in}
 use Rattle.resolving.specs.declared.resolve.Asked.{Asked}
 use Rattle.resolving.specs.declared.resolve.Given.{Given}
 use Rattle.resolving.specs.declared.resolve.Given.TheVariants as value
-use Rattle.resolving.specs.declared.field.Opened.{Opened}
-use Rattle.resolving.specs.declared.field.Answered.{Answered}
-use Rattle.resolving.specs.declared.field.Answered.TheVariants as answer
 use Rattle.resolving.specs.declared.field.Step.{Step}
 use Rattle.resolving.specs.declared.field.Step.TheVariants as step
 use Rattle.resolving.proofs.Stepping.{ended_steps, failed_steps, stopped_steps, left_steps}
@@ -69,32 +69,32 @@ module _ {path : Path} {last : ℕ} {asked : Asked} {pool names refs types membe
   -- ---- what was answered
 
   module _ {a : Answered} where
-    pub answers_given : {v : Given} {r : Step} {text' errors' : List ℕ} → a ≡ answer.Given v
+    pub answers_given : {v : Given} {r : Step} {text' errors' : List ℕ} → a ≡ Ok (Some v)
         → CompletesBehind path last asked pool names refs types members fields nodes literals variables ty b start v text errors s r text' errors'
         → AnswersBehind path last asked pool names refs types members fields nodes literals variables ty b start a text errors s r text' errors'
     answers_given e h = rw e (record { steps = h.steps })
 
-    pub answers_skip : {back : State} {r : Done} → a ≡ answer.Skip → back ≡ moved_to s start → r ≡ record { what = Placed LeftOut; state = back }
+    pub answers_skip : {back : State} {r : Done} → a ≡ Ok None → back ≡ moved_to s start → r ≡ record { what = Ok LeftOut; state = back }
         → AnswersBehind path last asked pool names refs types members fields nodes literals variables ty b start a text errors s (step.Finished r)
         text errors
     answers_skip e m d = rw (e, d, m) (record {
       steps = λ arguments sets selections given fragments answers g m at i. left_steps _ path g b m i;
     })
 
-    pub answers_failed : {e : FieldError} {place : ℕ} {d r : Done} {text' errors' : List ℕ} → a ≡ answer.Failed e place
-        → FailsWith Here (error_at e place path last) errors s d errors' → Finishes b start d text r text'
+    pub answers_failed : {f : Failure} {d r : Done} {text' errors' : List ℕ} → a ≡ Err (uncoerced.Failed f)
+        → FailsWith Here (error_at f.error f.place path last) errors s d errors' → Finishes b start d text r text'
         → AnswersBehind path last asked pool names refs types members fields nodes literals variables ty b start a text errors s (step.Finished r)
         text' errors'
-    answers_failed {e} {place} i h f = rw i (record {
-      steps = λ arguments sets selections given fragments answers g m at i. failed_steps _ path g b m e place last i h f;
+    answers_failed {f} i h w = rw i (record {
+      steps = λ arguments sets selections given fragments answers g m at i. failed_steps _ path g b m f.error f.place last i h w;
     })
 
-    pub answers_stopped : {code : ℕ} {d r : Done} {text' : List ℕ} → a ≡ answer.Stop code → d ≡ record { what = Fails (Stop code); state = s }
+    pub answers_stopped : {o : Outcome} {d r : Done} {text' : List ℕ} → a ≡ Err (uncoerced.Stop o) → d ≡ record { what = Err (Stop o); state = s }
         → Finishes b start d text r text'
         → AnswersBehind path last asked pool names refs types members fields nodes literals variables ty b start a text errors s (step.Finished r)
         text' errors
-    answers_stopped {code} i e f = rw i (record {
-      steps = λ arguments sets selections given fragments answers g m at i. stopped_steps _ path g b m code i (rw e at f);
+    answers_stopped {o} i e f = rw i (record {
+      steps = λ arguments sets selections given fragments answers g m at i. stopped_steps _ path g b m o i (rw e at f);
     })
 
 -- ---- `__typename`

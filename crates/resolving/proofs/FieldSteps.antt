@@ -30,14 +30,14 @@ use Rattle.walking.specs.declared.path.Path.{Path}
 use Rattle.walking.specs.declared.state.State.{State}
 use Rattle.walking.specs.declared.state.Kind.TheVariants.{LeftOut}
 use Rattle.walking.specs.declared.state.Failure.TheVariants.{Stop}
-use Rattle.walking.specs.declared.state.Completed.TheVariants.{Placed, Fails}
+use Rattle.std.specs.Prelude.{Ok, Err}
 use Rattle.walking.specs.declared.state.Done.{Done}
 use Rattle.walking.proofs.Ended.{stopped_gives, placed_gives}
 use Rattle.resolving.specs.Sound.{asking, Askable, Answerable}
 use Rattle.resolving.specs.Steps.{keyed_by, doing, group_from, ExecutesField}
-use Rattle.resolving.specs.Field.{spot_at, typename_in, field_value, TypenameBehind, AnswersField, AnswersBehind, Completable, Resolvable}
+use Rattle.resolving.specs.Field.{Answered, spot_at, typename_in, field_value, TypenameBehind, AnswersField, AnswersBehind, Completable, Resolvable}
 use Rattle.resolving.specs.declared.resolve.Asked.{Asked}
-use Rattle.resolving.specs.declared.field.Answered.{Answered}
+use Rattle.codes.specs.declared.outcome.Outcome.TheVariants.{TooFar}
 use Rattle.resolving.specs.declared.field.Step.{Step}
 use Rattle.resolving.specs.declared.field.Step.TheVariants as step
 use Rattle.resolving.proofs.Stepping.{run_full, run_down, steps_same}
@@ -91,7 +91,7 @@ module _ (Q : Request) (path : Path) (object : ℕ) (rows : Range) (g : Group) w
 module _ {pool names refs types members fields arguments selections gives nodes literals variables answers : List ℕ} {path : Path} {first object : ℕ}
     {rows : Range} {text errors : List ℕ} {s : State} {own : ℕ}
     (says : own ≡ definition_code (definition_of (schema types fields) object (field_selection selections first).name)) where
-  pub field_undefined : {d : Done} → own ≡ 0 → d ≡ record { what = Placed LeftOut; state = s }
+  pub field_undefined : {d : Done} → own ≡ 0 → d ≡ record { what = Ok LeftOut; state = s }
       → ExecutesField pool names refs types members fields arguments selections gives nodes literals variables answers path first object rows text
       errors s (step.Finished d) text errors
   unfolding execute_group
@@ -101,16 +101,15 @@ module _ {pool names refs types members fields arguments selections gives nodes 
         (rw (group_is Q path object rows (group_from selections first more) (undefined_is _ says u)) (placed_gives absent (stay text s.at)), refl);
   })
 
-  pub field_full : {code : ℕ} {d : Done} → (own ≡ 0 → ⊥) → path.count ≤ 32 → 32 ≤ path.count → code ≡ too_far
-      → d ≡ record { what = Fails (Stop code); state = s }
+  pub field_full : {d : Done} → (own ≡ 0 → ⊥) → path.count ≤ 32 → 32 ≤ path.count → d ≡ record { what = Err (Stop TooFar); state = s }
       → ExecutesField pool names refs types members fields arguments selections gives nodes literals variables answers path first object rows text
       errors s (step.Finished d) text errors
   unfolding execute_group
-  field_full n h l c d = rw (d, c) (record {
+  field_full n h l d = rw d (record {
     steps = λ sets fragments cs more.
         let Q = asking pool names refs types members fields arguments sets selections gives fragments nodes literals variables answers in
         let o = says_some (definition_of (schema types fields) object (field_selection selections first).name) (λ z. n (says ∙ sym z)) in
-        (rw (group_is Q path object rows (group_from selections first more) o.1, run_full Q h l) (stopped_gives too_far), refl);
+        (rw (group_is Q path object rows (group_from selections first more) o.1, run_full Q h l) (stopped_gives TooFar), refl);
   })
 
   -- ---- behind its key

@@ -26,17 +26,17 @@ use Rattle.walking.specs.declared.path.Path.{Path}
 use Rattle.walking.specs.declared.state.State.{State}
 use Rattle.walking.specs.declared.state.Kind.TheVariants.{LeftOut}
 use Rattle.walking.specs.declared.state.Failure.TheVariants.{PastList, Stop}
-use Rattle.walking.specs.declared.state.Completed.TheVariants.{Placed, Fails}
+use Rattle.std.specs.Prelude.{Some, None, Ok, Err}
 use Rattle.walking.specs.declared.state.Done.{Done}
 use Rattle.walking.proofs.Ended.{fails_gives, stopped_gives}
 use Rattle.resolving.specs.Sound.{asking, Itemizable}
-use Rattle.resolving.specs.Resolve.{ResolvesRow}
+use Rattle.resolving.specs.Resolve.{Resolved, ResolvesRow}
 use Rattle.resolving.specs.Steps.{comma, doing, CompletesItem}
 use Rattle.resolving.specs.Field.{spot_at, CompletesBehind, Completable}
 use Rattle.resolving.specs.declared.resolve.Asked.{Asked}
 use Rattle.resolving.specs.declared.resolve.Given.{Given}
-use Rattle.resolving.specs.declared.resolve.Resolved.{Resolved}
-use Rattle.resolving.specs.declared.resolve.Resolved.TheVariants as resolving
+use Rattle.codes.specs.declared.errors.FieldError.{FieldError}
+use Rattle.codes.specs.declared.outcome.Outcome.TheVariants.{TooFar}
 use Rattle.resolving.specs.declared.field.Step.{Step}
 use Rattle.resolving.specs.declared.field.Step.TheVariants as step
 use Rattle.resolving.proofs.Stepping.{run_full, run_down, steps_same}
@@ -61,17 +61,17 @@ item_is Q path at last inner row room seg g args = rw (← seg) (run_down Q room
 
 module _ {pool names refs types members fields arguments gives nodes literals variables answers : List ℕ} {path : Path} {at : ℕ} {asked : Asked}
     {inner row : ℕ} {text errors : List ℕ} {s : State} where
-  pub item_full : {code : ℕ} {d : Done} → path.count ≤ 32 → 32 ≤ path.count → code ≡ too_far → d ≡ record { what = Fails (Stop code); state = s }
+  pub item_full : {d : Done} → path.count ≤ 32 → 32 ≤ path.count → d ≡ record { what = Err (Stop TooFar); state = s }
       → CompletesItem pool names refs types members fields arguments gives nodes literals variables answers path at asked inner row text errors s
       (step.Finished d) text errors
-  item_full h l c d = rw (d, c) (record {
-    steps = λ sets selections fragments cs g args asks. (rw (run_full _ h l) (stopped_gives too_far), refl);
+  item_full h l d = rw d (record {
+    steps = λ sets selections fragments cs g args asks. (rw (run_full _ h l) (stopped_gives TooFar), refl);
   })
 
   module _ (last : ℕ) (room : path.count < 32) (seg : segment_of last ≡ index at) where
     module _ {o : Resolved} (h : ResolvesRow arguments gives literals variables answers asked row o)
         (sound : Itemizable types arguments nodes literals variables answers asked) where
-      pub item_skip : {d : Done} → o ≡ resolving.Skip → d ≡ record { what = Placed LeftOut; state = s }
+      pub item_skip : {d : Done} → o ≡ Ok None → d ≡ record { what = Ok LeftOut; state = s }
           → CompletesItem pool names refs types members fields arguments gives nodes literals variables answers path at asked inner row text errors s
           (step.Finished d) text errors
       unfolding complete_item note pure after record_of records_of words_of filter_map
@@ -84,20 +84,21 @@ module _ {pool names refs types members fields arguments gives nodes literals va
             );
       })
 
-      pub item_fails : {d : Done} {errors' : List ℕ} → o ≡ resolving.Error
-          → FailsWith PastList (error_at error.Resolver asked.place path last) errors s d errors'
+      pub item_fails : {e : FieldError} {d : Done} {errors' : List ℕ} → o ≡ Err e
+          → FailsWith PastList (error_at e asked.place path last) errors s d errors'
           → CompletesItem pool names refs types members fields arguments gives nodes literals variables answers path at asked inner row text errors s
           (step.Finished d) text errors'
       unfolding complete_item error_of place_among place_of
-      item_fails e f = record {
+      item_fails i f = record {
         steps = λ sets selections fragments cs g args asks.
-            let r = ((rw e at h).resolves pool names refs types members fields sets selections fragments nodes (sound.valued pool)).gave g args asks in (
-              rw (item_is _ path at last inner row room seg g args, pure_bind_at _ _ (drop s.choice cs) (r (drop s.choice cs))) (fails_gives past_list (rw asks.place at f)),
+            let r = ((rw i at h).resolves pool names refs types members fields sets selections fragments nodes (sound.valued pool)).gave g args asks in (
+              rw (item_is _ path at last inner row room seg g args, pure_bind_at _ _ (drop s.choice cs) (r.1 (drop s.choice cs)))
+                  (fails_gives past_list (rw (asks.place, r.0) at f)),
               f.level,
             );
       }
 
-      pub item_given : {v : Given} {b : Bool} {next : ℕ} {behind : State} {r : Step} {text1 text' errors' : List ℕ} → o ≡ resolving.Given v
+      pub item_given : {v : Given} {b : Bool} {next : ℕ} {behind : State} {r : Step} {text1 text' errors' : List ℕ} → o ≡ Ok (Some v)
           → b ≡ non_null refs inner → Wrote text text1 s.at next comma → behind ≡ moved_to s next
           → CompletesBehind path last asked pool names refs types members fields nodes literals variables inner b s.at v text1 errors behind r text'
           errors'

@@ -19,11 +19,11 @@ use Rattle.graphql.specs.Request.{Request}
 use Rattle.graphql.specs.Complete.{Leaf, field_place, field_error, complete_leaf_value}
 use Rattle.graphql.specs.Run as run
 use Rattle.values.specs.declared.sort.Sort.{Sort}
-use Rattle.values.specs.declared.node.Put.{Put}
-use Rattle.values.specs.declared.node.Put.TheVariants.{At, TooFar}
+use Rattle.values.specs.Put.{Put}
 use Rattle.completing.specs.Judged.{judged, JudgesLeaf}
-use Rattle.completing.specs.declared.result_coercion.Verdict.{Verdict}
-use Rattle.completing.specs.declared.result_coercion.Verdict.TheVariants.{Fits, Error}
+use Rattle.completing.specs.Judged.{Verdict}
+use Rattle.codes.specs.declared.outcome.Outcome.{Outcome}
+use Rattle.codes.specs.declared.outcome.Outcome.TheVariants.{TooFar}
 use Rattle.leaves.specs.Leaves.{Means, PutsLeaf, SortsLeaf, SpellsLeaf}
 use Rattle.leaves.specs.declared.leaf.Leaf as code
 use Rattle.walking.specs.Gives.{moved_to}
@@ -34,7 +34,7 @@ use Rattle.walking.specs.declared.state.State.{State}
 use Rattle.walking.specs.declared.state.Kind.TheVariants as kind
 use Rattle.walking.specs.declared.state.Failure.{Failure}
 use Rattle.walking.specs.declared.state.Failure.TheVariants.{Here, Stop}
-use Rattle.walking.specs.declared.state.Completed.TheVariants.{Placed, Fails}
+use Rattle.std.specs.Prelude.{Some, None, Ok, Err}
 use Rattle.walking.specs.declared.state.Done.{Done}
 use Rattle.walking.proofs.Ended.{fails_back, stopped_long, placed_gives}
 use Rattle.resolving.specs.Sound.{asking}
@@ -45,7 +45,7 @@ module _ {pool names refs types fields nodes literals variables : List ℕ} {cod
     (h : PutsLeaf pool names refs types fields nodes literals variables code_leaf text at w text') (j : Json)
     (m : Means pool names refs types fields nodes literals variables code_leaf j) where
   -- It was too far: so many containers the value opens.
-  too_many : w ≡ TooFar → leb (containers j) most_open ≡ false
+  too_many : w ≡ None → leb (containers j) most_open ≡ false
   too_many e = go (dec_le (containers j) most_open)
     where
       go : Dec (containers j ≤ most_open) → leb (containers j) most_open ≡ false
@@ -53,7 +53,7 @@ module _ {pool names refs types fields nodes literals variables : List ℕ} {cod
       go (no p) = lt-leb (containers j) most_open (omega arith)
 
   -- It was written: it does not open too many.
-  written : {end : ℕ} → w ≡ At end → (leb (containers j) most_open ≡ true) × Wrote text text' at end (print j)
+  written : {end : ℕ} → w ≡ Some end → (leb (containers j) most_open ≡ true) × Wrote text text' at end (print j)
   written {end} e = go (dec_le (containers j) most_open)
     where
       go : Dec (containers j ≤ most_open) → (leb (containers j) most_open ≡ true) × Wrote text text' at end (print j)
@@ -78,18 +78,18 @@ comes Q sorts spells judges l m g p =
 
 module _ {pool names refs types members fields nodes literals variables : List ℕ} {code_leaf : code.Leaf} {text text' errors : List ℕ} {ty spot last : ℕ}
     {path : Path} {s : State} {w : Put} (h : PutsLeaf pool names refs types fields nodes literals variables code_leaf text s.at w text') where
-  pub leaf_too_far : {code : ℕ} {d : Done} → w ≡ TooFar → code ≡ too_far → d ≡ record { what = Fails (Stop code); state = s }
+  pub leaf_too_far : {d : Done} → w ≡ None → d ≡ record { what = Err (Stop TooFar); state = s }
       → CompletesAt pool names refs types members fields nodes literals variables ty code_leaf spot path last text errors s d text' errors
   unfolding when
-  leaf_too_far e c q = rw (q, c) (record {
+  leaf_too_far e q = rw q (record {
     level = refl;
     completes = λ arguments sets selections given fragments answers.
-        record { comes = λ cs g l o m. rw (too_many h l.json m e) (stopped_long too_far h.long) };
+        record { comes = λ cs g l o m. rw (too_many h l.json m e) (stopped_long TooFar h.long) };
   })
 
-  module _ {end : ℕ} (e : w ≡ At end) {sort : Sort} {string : List ℕ} {v : Verdict} (sorts : SortsLeaf refs types nodes literals code_leaf sort)
+  module _ {end : ℕ} (e : w ≡ Some end) {sort : Sort} {string : List ℕ} {v : Verdict} (sorts : SortsLeaf refs types nodes literals code_leaf sort)
       (spells : SpellsLeaf pool names nodes literals code_leaf string) (judges : JudgesLeaf pool names refs types members ty sort string v) where
-    pub leaf_fits : {d : Done} → v ≡ Fits → d ≡ record { what = Placed kind.Leaf; state = moved_to s end }
+    pub leaf_fits : {d : Done} → v ≡ Ok tt → d ≡ record { what = Ok kind.Leaf; state = moved_to s end }
         → CompletesAt pool names refs types members fields nodes literals variables ty code_leaf spot path last text errors s d text' errors
     unfolding when print_data
     leaf_fits f q = rw q (record {
@@ -104,7 +104,7 @@ module _ {pool names refs types members fields nodes literals variables : List �
           };
     })
 
-    pub leaf_error : {d : Done} {errors' : List ℕ} {x : FieldError} {failure : Failure} → v ≡ Error x → failure ≡ Here
+    pub leaf_error : {d : Done} {errors' : List ℕ} {x : FieldError} {failure : Failure} → v ≡ Err x → failure ≡ Here
         → FailsWith failure (error_at x spot path last) errors s d errors'
         → CompletesAt pool names refs types members fields nodes literals variables ty code_leaf spot path last text errors s d text' errors'
     unfolding when field_error error_of

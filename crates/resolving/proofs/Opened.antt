@@ -19,28 +19,26 @@ use Rattle.graphql.specs.Request.{Request}
 use Rattle.graphql.specs.Complete.{Task, field_error, field_place, named_type, object_type, merge_selection_sets, execute_selection_set}
 use Rattle.graphql.specs.Complete.{complete_list_value, complete_object_value}
 use Rattle.completing.specs.Judged.{TypesObject}
-use Rattle.completing.specs.declared.result_coercion.Typed.{Typed}
-use Rattle.completing.specs.declared.result_coercion.Typed.TheVariants as typing
+use Rattle.std.specs.Prelude.{Result, Ok, Err}
 use Rattle.completing.proofs.Binds.{pure_bind, error_bind}
 use Rattle.walking.proofs.RunLaws.{bind_bind}
 use Rattle.resolving.specs.Field.{noting, OpensList, OpensObject, Known}
 use Rattle.resolving.specs.declared.field.Container.TheVariants as container
-use Rattle.resolving.specs.declared.field.Opened.TheVariants as opened
 use Rattle.resolving.proofs.AtField.{field_error_place, object_at_field}
 
 -- ---- a list
 
 module _ {refs : List ℕ} {ty : ℕ} {rows : Range} {x : TypeRef} (t : x ≡ type_ref_at refs ty) where
-  pub list_named : {name : ℕ} {nullable : Bool} → x ≡ ref.Named name nullable → OpensList refs ty rows (opened.Error error.ListForNonListType)
+  pub list_named : {name : ℕ} {nullable : Bool} → x ≡ ref.Named name nullable → OpensList refs ty rows (Err error.ListForNonListType)
   unfolding complete_list_value field_error error_of place_among place_of
   list_named e = record { opens = λ Q path asked g p m q i k. i.is k ∙ rw (q, ← t, e) }
 
-  pub list_unknown : x ≡ ref.Unknown → OpensList refs ty rows (opened.Error error.UndefinedType)
+  pub list_unknown : x ≡ ref.Unknown → OpensList refs ty rows (Err error.UndefinedType)
   unfolding complete_list_value field_error error_of place_among place_of
   list_unknown e = record { opens = λ Q path asked g p m q i k. i.is k ∙ rw (q, ← t, e) }
 
   pub list_opens : {inner : ℕ} {nullable : Bool} → x ≡ ref.ListOf inner nullable
-      → OpensList refs ty rows (opened.Container (container.List inner nullable rows))
+      → OpensList refs ty rows (Ok (container.List inner nullable rows))
   unfolding complete_list_value
   list_opens e = record {
     opens = λ Q path asked g p m q i. record {
@@ -66,8 +64,8 @@ noted_at : (e : FieldError) (place : ℕ) (p : run.Path) → place_among (place_
 unfolding error_of
 noted_at e place p h = rw h
 
-module _ {refs types members : List ℕ} {ty name : ℕ} {rows : Range} {t : Typed} (h : TypesObject refs types members ty name t) where
-  pub object_fails : {e : FieldError} → t ≡ typing.Error e → OpensObject refs types members ty name rows (opened.Error e)
+module _ {refs types members : List ℕ} {ty name : ℕ} {rows : Range} {t : Result ℕ FieldError} (h : TypesObject refs types members ty name t) where
+  pub object_fails : {e : FieldError} → t ≡ Err e → OpensObject refs types members ty name rows (Err e)
   unfolding field_error
   object_fails {e} h' = record {
     opens = λ Q path asked g p m pool names q i k.
@@ -76,8 +74,8 @@ module _ {refs types members : List ℕ} {ty name : ℕ} {rows : Range} {t : Typ
         i.is k ∙ rw (object_by_type Q _ ty name rows g p, c, h', error_bind _ Q e g p, w);
   }
 
-  pub object_opens : {object : ℕ} → Known types → t ≡ typing.Type object
-      → OpensObject refs types members ty name rows (opened.Container (container.Object object rows))
+  pub object_opens : {object : ℕ} → Known types → t ≡ Ok object
+      → OpensObject refs types members ty name rows (Ok (container.Object object rows))
   object_opens {object} known h' = record {
     opens = λ Q path asked g p m pool names q i. record {
       contains = (known.known object (rw h' at h.object), i.within);

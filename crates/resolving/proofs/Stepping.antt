@@ -24,15 +24,15 @@ use Rattle.walking.specs.declared.path.Path.{Path}
 use Rattle.walking.specs.declared.state.State.{State}
 use Rattle.walking.specs.declared.state.Kind.TheVariants.{LeftOut}
 use Rattle.walking.specs.declared.state.Failure.TheVariants.{Here, Stop}
-use Rattle.walking.specs.declared.state.Completed.TheVariants.{Placed, Fails}
+use Rattle.std.specs.Prelude.{Ok, Err}
+use Rattle.codes.specs.Outcome.{code_of}
+use Rattle.codes.specs.declared.outcome.Outcome.{Outcome}
 use Rattle.walking.specs.declared.state.Done.{Done}
 use Rattle.walking.proofs.Ended.{words_none, try_settled, fails_gives, stopped_gives}
 use Rattle.resolving.specs.Steps.{keyed_by, doing, Steps}
-use Rattle.resolving.specs.Field.{spot_at, noting, StepsBehind, Finishes, OpensBehind}
+use Rattle.resolving.specs.Field.{Opened, spot_at, noting, StepsBehind, Finishes, OpensBehind}
 use Rattle.resolving.specs.declared.resolve.Asked.{Asked}
 use Rattle.resolving.specs.declared.field.Container.{Container}
-use Rattle.resolving.specs.declared.field.Opened.{Opened}
-use Rattle.resolving.specs.declared.field.Opened.TheVariants as opened
 use Rattle.resolving.specs.declared.field.Step.{Step}
 use Rattle.resolving.specs.declared.field.Step.TheVariants as step
 
@@ -111,33 +111,33 @@ module _ (Q : Request) (path : Path) (g : Group) (b : Bool) (m : M Val) {start :
   failed_steps e place last i h f = ended_steps h.level (λ cs. rw (i (drop s.choice cs)) (fails_gives here h)) f
 
   -- the run stopped
-  pub stopped_steps : {r : Done} {text' : List ℕ} (code : ℕ) → ((k : Choices) → m k ≡ halt code k)
-      → Finishes b start (record { what = Fails (Stop code); state = s }) text r text'
+  pub stopped_steps : {r : Done} {text' : List ℕ} (o : Outcome) → ((k : Choices) → m k ≡ halt (code_of o) k)
+      → Finishes b start (record { what = Err (Stop o); state = s }) text r text'
       → StepsBehind Q path g start (try_nullify b m) text errors s (step.Finished r) text' errors
-  stopped_steps code i f = ended_steps refl (λ cs. rw (i (drop s.choice cs)) (stopped_gives code)) f
+  stopped_steps o i f = ended_steps refl (λ cs. rw (i (drop s.choice cs)) (stopped_gives o)) f
 
   -- a value that is left out: the label is taken back
   pub left_steps : ((k : Choices) → m k ≡ pure absent k)
-      → StepsBehind Q path g start (try_nullify b m) text errors s (step.Finished (record { what = Placed LeftOut; state = moved_to s start }))
+      → StepsBehind Q path g start (try_nullify b m) text errors s (step.Finished (record { what = Ok LeftOut; state = moved_to s start }))
       text errors
   unfolding pure caught
   left_steps i = record { steps = λ cs label before w. (rw (try_settled b m (drop s.choice cs), i (drop s.choice cs)) (go b w), refl) }
     where
       go : {cs label before : List ℕ} (b : Bool) → Wrote before text start s.at label
           → Gives (as_entry label) cs before errors (moved_to s start) (settled b (pure absent (drop s.choice cs)))
-          (record { what = Placed LeftOut; state = moved_to s start }) text errors
+          (record { what = Ok LeftOut; state = moved_to s start }) text errors
       go true w = record { what = refl; wrote = back w; noted = rw words_none (stay errors s.errs); chosen = refl }
       go false w = record { what = refl; wrote = back w; noted = rw words_none (stay errors s.errs); chosen = refl }
 
 -- ---- a list or an object
 
 module _ {path : Path} {last : ℕ} {asked : Asked} {b : Bool} {start : ℕ} {text errors : List ℕ} {s : State} where
-  pub opened_fails : {e : FieldError} {o : Opened} {d r : Done} {text' errors' : List ℕ} → o ≡ opened.Error e
+  pub opened_fails : {e : FieldError} {o : Opened} {d r : Done} {text' errors' : List ℕ} → o ≡ Err e
       → FailsWith Here (error_at e asked.place path last) errors s d errors' → Finishes b start d text r text'
       → OpensBehind path last asked b start o text errors s (step.Finished r) text' errors'
   opened_fails {e} o h f = rw o (record { steps = λ Q g m at i. failed_steps Q path g b m e _ last i (rw at.place at h) f })
 
-  pub opened_deepens : {c : Container} {o : Opened} → path.count < 32 → o ≡ opened.Container c
+  pub opened_deepens : {c : Container} {o : Opened} → path.count < 32 → o ≡ Ok c
       → OpensBehind path last asked b start o text errors s
       (step.Deeper (record { container = c; non_null = b; last = last; asked = asked; state = s })) text errors
   opened_deepens {c} h o = rw o (record {

@@ -30,34 +30,34 @@ use Rattle.leaves.specs.declared.leaf.Leaf as code
 use Rattle.leaves.specs.declared.leaf.Leaf.TheVariants as leaf
 use Rattle.walking.proofs.RunLaws.{bind_at}
 use Rattle.resolving.specs.Sound.{Leads}
-use Rattle.resolving.specs.Resolve.{Valuing, Gave, ResolvesRow, EchoesArgument}
+use Rattle.resolving.specs.Resolve.{Valuing, Resolved, Gave, ResolvesRow, EchoesArgument}
 use Rattle.resolving.specs.declared.resolve.Asked.{Asked}
 use Rattle.resolving.specs.declared.resolve.Given.TheVariants as value
-use Rattle.resolving.specs.declared.resolve.Resolved.{Resolved}
-use Rattle.resolving.specs.declared.resolve.Resolved.TheVariants as resolving
+use Rattle.codes.specs.declared.errors.FieldError.TheVariants as error
+use Rattle.std.specs.Prelude.{Ok, Err}
 
 -- ---- An argument
 
-echo_none : (Q : Request) (n : ℕ) {found : Option Json} → found ≡ None → Gave Q (echoed Q n found) resolving.Error
+echo_none : (Q : Request) (n : ℕ) {found : Option Json} → found ≡ None → Gave Q (echoed Q n found) (Err error.Resolver)
 unfolding echoed
-echo_none Q n h = rw h (λ k. refl)
+echo_none Q n h = rw h (refl, λ k. refl)
 
 echo_some : (Q : Request) (n : ℕ) {found : Option Json} {j : Json} (l : code.Leaf) → found ≡ Some j → Valuing Q l j
-    → Gave Q (echoed Q n found) (resolving.Given (value.Leaf l))
+    → Gave Q (echoed Q n found) (Ok (Some (value.Leaf l)))
 unfolding echoed
 echo_some Q n {j = j} l h m = rw h (record { taken = record { origin = from_argument n; json = j }; means = m; is = λ k. refl })
 
-module _ {arguments gives literals variables : List ℕ} {asked : Asked} {name : ℕ} {s : Source}
+module _ {arguments gives literals variables : List ℕ} {asked : Asked} {name : ℕ} {s : Option Source}
     (h : SourceOf arguments gives literals variables asked.definitions asked.written name s) where
-  pub echo_absent : s ≡ source.Absent → EchoesArgument arguments gives literals variables asked name resolving.Error
+  pub echo_absent : s ≡ None → EchoesArgument arguments gives literals variables asked name (Err error.Resolver)
   unfolding coerce_arguments
   echo_absent e = record {
     echoes = λ pool names refs types members fields sets selections fragments nodes answers g args a.
         echo_none _ name ((rw e at h).stands pool names refs types fields nodes a.path args a.comes);
   }
 
-  pub echo_node : {row : ℕ} → s ≡ source.Node row
-      → EchoesArgument arguments gives literals variables asked name (resolving.Given (value.Leaf (leaf.Node row)))
+  pub echo_node : {row : ℕ} → s ≡ Some (source.Node row)
+      → EchoesArgument arguments gives literals variables asked name (Ok (Some (value.Leaf (leaf.Node row))))
   unfolding coerce_arguments
   echo_node {row} e = record {
     echoes = λ pool names refs types members fields sets selections fragments nodes answers g args a.
@@ -65,8 +65,8 @@ module _ {arguments gives literals variables : List ℕ} {asked : Asked} {name :
         echo_some _ name (leaf.Node row) f.is f.comes;
   }
 
-  pub echo_literal : {ty row : ℕ} → s ≡ source.Literal ty row
-      → EchoesArgument arguments gives literals variables asked name (resolving.Given (value.Leaf (leaf.Literal ty row)))
+  pub echo_literal : {ty row : ℕ} → s ≡ Some (source.Literal ty row)
+      → EchoesArgument arguments gives literals variables asked name (Ok (Some (value.Leaf (leaf.Literal ty row))))
   unfolding coerce_arguments
   echo_literal {ty} {row} e = record {
     echoes = λ pool names refs types members fields sets selections fragments nodes answers g args a.
@@ -74,8 +74,8 @@ module _ {arguments gives literals variables : List ℕ} {asked : Asked} {name :
         echo_some _ name (leaf.Literal ty row) f.found.is (record { path = a.path; comes = f.found.comes; shaped = f.shaped });
   }
 
-  pub echo_default_lem : {row : ℕ} → s ≡ source.Default row
-      → EchoesArgument arguments gives literals variables asked name (resolving.Given (value.Leaf (leaf.Default row)))
+  pub echo_default_lem : {row : ℕ} → s ≡ Some (source.Default row)
+      → EchoesArgument arguments gives literals variables asked name (Ok (Some (value.Leaf (leaf.Default row))))
   unfolding coerce_arguments
   echo_default_lem {row} e = record {
     echoes = λ pool names refs types members fields sets selections fragments nodes answers g args a.
@@ -87,7 +87,7 @@ module _ {arguments gives literals variables : List ℕ} {asked : Asked} {name :
 
 take_node : (Q : Request) (args : Arguments) (row node : ℕ)
     → Valued (node_value Q.tables.pool Q.tables.nodes (suc (rows_of Q.tables.nodes node_width)) node)
-    → Gave Q (resolved Q args row (answer.Leaf node)) (resolving.Given (value.Leaf (leaf.Node node)))
+    → Gave Q (resolved Q args row (answer.Leaf node)) (Ok (Some (value.Leaf (leaf.Node node))))
 unfolding resolved pure when halt ◌>>=◌ onward
 take_node Q args row node v = record {
   taken = record { origin = from_answer row; json = v.value };
@@ -109,33 +109,33 @@ take_node Q args row node v = record {
 -- ---- An answer
 
 module _ {arguments gives literals variables answers : List ℕ} {asked : Asked} {row : ℕ} {a : Answer} (t : a ≡ answer_at answers row) where
-  pub row_skip : a ≡ answer.Skip → ResolvesRow arguments gives literals variables answers asked row resolving.Skip
+  pub row_skip : a ≡ answer.Skip → ResolvesRow arguments gives literals variables answers asked row (Ok None)
   unfolding resolved
   row_skip e = record {
     resolves = λ pool names refs types members fields sets selections fragments nodes v. record { gave = λ g args q. rw (← t, e) (λ k. refl) };
   }
 
-  pub row_error : a ≡ answer.Error → ResolvesRow arguments gives literals variables answers asked row resolving.Error
+  pub row_error : a ≡ answer.Error → ResolvesRow arguments gives literals variables answers asked row (Err error.Resolver)
   unfolding resolved
   row_error e = record {
-    resolves = λ pool names refs types members fields sets selections fragments nodes v. record { gave = λ g args q. rw (← t, e) (λ k. refl) };
+    resolves = λ pool names refs types members fields sets selections fragments nodes v. record { gave = λ g args q. rw (← t, e) (refl, λ k. refl) };
   }
 
-  pub row_unknown : a ≡ answer.Unknown → ResolvesRow arguments gives literals variables answers asked row resolving.Error
+  pub row_unknown : a ≡ answer.Unknown → ResolvesRow arguments gives literals variables answers asked row (Err error.Resolver)
   unfolding resolved
   row_unknown e = record {
-    resolves = λ pool names refs types members fields sets selections fragments nodes v. record { gave = λ g args q. rw (← t, e) (λ k. refl) };
+    resolves = λ pool names refs types members fields sets selections fragments nodes v. record { gave = λ g args q. rw (← t, e) (refl, λ k. refl) };
   }
 
   pub row_leaf : {node : ℕ} → a ≡ answer.Leaf node
-      → ResolvesRow arguments gives literals variables answers asked row (resolving.Given (value.Leaf (leaf.Node node)))
+      → ResolvesRow arguments gives literals variables answers asked row (Ok (Some (value.Leaf (leaf.Node node))))
   row_leaf {node} e = record {
     resolves = λ pool names refs types members fields sets selections fragments nodes v.
         record { gave = λ g args q. rw (← t, e) (take_node _ args row node (v node)) };
   }
 
   pub row_list : {rows : Range} → a ≡ answer.List rows → Leads (answer_at answers row)
-      → ResolvesRow arguments gives literals variables answers asked row (resolving.Given (value.List rows))
+      → ResolvesRow arguments gives literals variables answers asked row (Ok (Some (value.List rows)))
   unfolding resolved
   row_list {rows} e l = record {
     resolves = λ pool names refs types members fields sets selections fragments nodes v.
@@ -143,7 +143,7 @@ module _ {arguments gives literals variables answers : List ℕ} {asked : Asked}
   }
 
   pub row_object : {name : ℕ} {rows : Range} → a ≡ answer.Object name rows → Leads (answer_at answers row)
-      → ResolvesRow arguments gives literals variables answers asked row (resolving.Given (value.Object name rows))
+      → ResolvesRow arguments gives literals variables answers asked row (Ok (Some (value.Object name rows)))
   unfolding resolved
   row_object {name} {rows} e l = record {
     resolves = λ pool names refs types members fields sets selections fragments nodes v.

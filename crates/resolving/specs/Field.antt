@@ -1,5 +1,5 @@
 -- What the functions within `field` ensure: how a value that stands behind its label comes to a step, by what was given. Read it after Steps.
-use Rattle.std.specs.Prelude.{◌≡◌, Bool, true, List, [], ◌∷◌, ◌++◌, ℕ, suc, ◌+◌, ◌≤◌, ◌<◌}
+use Rattle.std.specs.Prelude.{Option, Some, None, Result, Ok, Err, ◌≡◌, Bool, true, List, [], ◌∷◌, ◌++◌, ℕ, suc, ◌+◌, ◌≤◌, ◌<◌}
 use Rattle.rows.specs.Limits.{most_answers, most_types}
 use Rattle.rows.specs.Layout.{node_width}
 use Rattle.rows.specs.Rows.{rows_of}
@@ -10,6 +10,7 @@ use Rattle.rows.specs.declared.layout.Range.{Range}
 use Rattle.rules.specs.Schema.{object_kind}
 use Rattle.writing.specs.Wrote.{Wrote}
 use Rattle.codes.specs.Errors.{number_of}
+use Rattle.codes.specs.Outcome.{code_of}
 use Rattle.codes.specs.declared.errors.FieldError.{FieldError}
 use Rattle.codes.specs.declared.errors.FieldError.TheVariants as error
 use Rattle.graphql.specs.Run.{Event, err, here, Choices, Res, M, pure, halt, fail, ◌>>=◌}
@@ -27,6 +28,8 @@ use Rattle.lookup.specs.Found.{Listed}
 use Rattle.values.specs.Put.{Parted}
 use Rattle.completing.specs.Judged.{Lent}
 use Rattle.input_coercion.specs.Ends.{Valued}
+use Rattle.input_coercion.specs.declared.check.Uncoerced.{Uncoerced}
+use Rattle.input_coercion.specs.declared.check.Uncoerced.TheVariants.{Failed, Stop}
 use Rattle.input_coercion.specs.Coerced.{Coercible}
 use Rattle.leaves.specs.declared.leaf.Leaf as code
 use Rattle.walking.specs.Gives.{as_value, as_entry, moved_to, Gives}
@@ -36,20 +39,22 @@ use Rattle.walking.specs.declared.path.Path.{Path}
 use Rattle.walking.specs.declared.state.State.{State}
 use Rattle.walking.specs.declared.state.Done.{Done}
 use Rattle.resolving.specs.Sound.{asking, Leads, Askable}
-use Rattle.resolving.specs.Resolve.{Valuing, Asks, Gave, leaf_completed}
+use Rattle.resolving.specs.Resolve.{Valuing, Asks, Resolved, Gave, leaf_completed}
 use Rattle.resolving.specs.Steps.{Contained, contained, doing, Steps}
 use Rattle.resolving.specs.declared.resolve.Asked.{Asked}
 use Rattle.resolving.specs.declared.resolve.Given.{Given}
 use Rattle.resolving.specs.declared.resolve.Given.TheVariants as value
-use Rattle.resolving.specs.declared.resolve.Resolved.{Resolved}
-use Rattle.resolving.specs.declared.resolve.Resolved.TheVariants as resolved
 use Rattle.resolving.specs.declared.field.Container.{Container}
-use Rattle.resolving.specs.declared.field.Opened.{Opened}
-use Rattle.resolving.specs.declared.field.Opened.TheVariants as opened
-use Rattle.resolving.specs.declared.field.Answered.{Answered}
-use Rattle.resolving.specs.declared.field.Answered.TheVariants as answered
 use Rattle.resolving.specs.declared.field.Step.{Step}
 use Rattle.resolving.specs.declared.field.Step.TheVariants as step
+
+-- a list or an object at a type; or the error that it is there
+abbrev pub Opened : Type 0
+Opened = Result Container FieldError
+
+-- what comes of a field's arguments and its answer: a value is given, or nothing; or it fails, or the run stops
+abbrev pub Answered : Type 0
+Answered = Result (Option Given) Uncoerced
 
 -- the place below a path
 abbrev pub spot_at : Path → (last : ℕ) → run.Path
@@ -118,15 +123,15 @@ module _ (Q : Request) (path : Path) (asked : Asked) (g : Group) where
       pub is : (k : Choices) → m k ≡ contained Q beneath container g args p k
 
     abbrev pub Opening : Opened → Type 0
-    Opening (opened.Container container) = Opens container
-    Opening (opened.Error e) = (k : Choices) → m k ≡ fail here (noting e (field_place Q g) p) k
+    Opening (Ok container) = Opens container
+    Opening (Err e) = (k : Choices) → m k ≡ fail here (noting e (field_place Q g) p) k
 
     -- once the arguments are coerced and the answer is taken
     abbrev pub Answering : (ty : ℕ) → Answered → Type 0
-    Answering ty answered.Skip = (k : Choices) → m k ≡ pure absent k
-    Answering ty (answered.Given v) = Completing ty v
-    Answering ty (answered.Failed e place) = (k : Choices) → m k ≡ fail here (noting e place p) k
-    Answering ty (answered.Stop code) = (k : Choices) → m k ≡ halt code k
+    Answering ty (Ok None) = (k : Choices) → m k ≡ pure absent k
+    Answering ty (Ok (Some v)) = Completing ty v
+    Answering ty (Err (Failed f)) = (k : Choices) → m k ≡ fail here (noting f.error f.place p) k
+    Answering ty (Err (Stop o)) = (k : Choices) → m k ≡ halt (code_of o) k
 
 -- the leaf that `__typename` answers
 abbrev pub typename_in : (pool names types : List ℕ) (object : ℕ) → Leaf
@@ -180,9 +185,8 @@ pub record ResolvesField (arguments given literals variables answers : List ℕ)
 
 -- the resolver's error stands at the first field
 abbrev pub answered_of : (place : ℕ) → Resolved → Answered
-answered_of place resolved.Skip = answered.Skip
-answered_of place resolved.Error = answered.Failed error.Resolver place
-answered_of place (resolved.Given v) = answered.Given v
+answered_of place (Ok given) = Ok given
+answered_of place (Err e) = Err (Failed (record { error = e; place = place }))
 
 -- a field's value, ahead of what becomes of a failure
 abbrev pub field_value : Request → Path → Asked → (rows : Range) (name ty : ℕ) → Group → run.Path → M Val

@@ -1,5 +1,5 @@
 -- What a resolver gave, as the code says it; and what the functions ensure that take an answer and complete a leaf.
-use Rattle.std.specs.Prelude.{◌≡◌, List, [], ◌∷◌, ◌++◌, ℕ, suc, ◌+◌, ◌≤◌, leb, drop}
+use Rattle.std.specs.Prelude.{Option, Some, None, Result, Ok, Err, ◌≡◌, List, [], ◌∷◌, ◌++◌, ℕ, suc, ◌+◌, ◌≤◌, leb, drop}
 use Rattle.rows.specs.Limits.{most_answers}
 use Rattle.rows.specs.Layout.{node_width}
 use Rattle.rows.specs.Rows.{rows_of}
@@ -28,8 +28,12 @@ use Rattle.resolving.specs.Sound.{asking}
 use Rattle.resolving.specs.declared.resolve.Asked.{Asked}
 use Rattle.resolving.specs.declared.resolve.Given.{Given}
 use Rattle.resolving.specs.declared.resolve.Given.TheVariants as value
-use Rattle.resolving.specs.declared.resolve.Resolved.{Resolved}
-use Rattle.resolving.specs.declared.resolve.Resolved.TheVariants as resolved
+use Rattle.codes.specs.declared.errors.FieldError.{FieldError}
+use Rattle.codes.specs.declared.errors.FieldError.TheVariants as error
+
+-- what was given, nothing where it is a skip, or the resolver's error
+abbrev pub Resolved : Type 0
+Resolved = Result (Option Given) FieldError
 
 module _ (Q : Request) where
   -- the value of a leaf, in a request's tables
@@ -60,9 +64,9 @@ module _ (Q : Request) where
   GaveValue m (value.Object name rows) = (rows.first + rows.count ≤ most_answers) × ((k : Choices) → m k ≡ pure (given (an_object name rows)) k)
 
   abbrev pub Gave : M defined.Resolved → Resolved → Type 0
-  Gave m resolved.Skip = (k : Choices) → m k ≡ pure a_skip k
-  Gave m resolved.Error = (k : Choices) → m k ≡ pure an_error k
-  Gave m (resolved.Given v) = GaveValue m v
+  Gave m (Ok None) = (k : Choices) → m k ≡ pure a_skip k
+  Gave m (Ok (Some v)) = GaveValue m v
+  Gave m (Err e) = (e ≡ error.Resolver) × ((k : Choices) → m k ≡ pure an_error k)
 
   -- a leaf, taken and completed
   abbrev pub leaf_completed : (ty : ℕ) → Leaf → Group → Path → M Val

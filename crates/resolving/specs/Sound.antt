@@ -10,7 +10,7 @@ use Rattle.rows.specs.declared.layout.Range.{Range}
 use Rattle.rows.specs.declared.answers.Answer.{Answer}
 use Rattle.rows.specs.declared.answers.Answer.TheVariants as answer
 use Rattle.rules.specs.Schema.{object_kind}
-use Rattle.tables.specs.Tables.{tables}
+use Rattle.tables.specs.Tables.{Tables, tables}
 use Rattle.graphql.specs.Values.{node_value}
 use Rattle.graphql.specs.Request.{Request}
 use Rattle.lookup.specs.Found.{Listed}
@@ -25,6 +25,10 @@ use Rattle.resolving.specs.declared.resolve.Asked.{Asked}
 abbrev pub asking : (pool names refs types members fields arguments sets selections given fragments nodes literals variables answers : List ℕ) → Request
 asking pool names refs types members fields arguments sets selections given fragments nodes literals variables answers =
     record { tables = tables pool names refs types members fields arguments sets selections given fragments nodes literals variables answers 0 }
+
+-- the request of the tables that are lent
+abbrev pub request_of : Tables → Request
+request_of t = asking t.pool t.names t.refs t.types t.members t.fields t.arguments t.sets t.selections t.given t.fragments t.nodes t.literals t.variables t.answers
 
 -- rows that words can number
 abbrev pub Numbered : Range → Type 0

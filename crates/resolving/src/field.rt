@@ -14,13 +14,15 @@ ghost use Rattle.resolving.specs.Sound.{Leads, Askable, Answerable, Itemizable};
 ghost use Rattle.resolving.specs.Steps.{keyed_by, ExecutesField, CompletesItem};
 ghost use Rattle.resolving.specs.Field.{Finishes, OpensList, OpensObject, OpensBehind, CompletesBehind, AnswersBehind, TypenameBehind};
 ghost use Rattle.resolving.specs.Field.{ResolvesField, answered_of, AnswersField, Known, Completable, Resolvable};
+ghost use Rattle.tables.specs.Tables.{lent};
 
-use crate::resolve::{Asked, Given, Resolved, complete_leaf_value, resolve_row};
+use crate::resolve::{Asked, Given, complete_leaf_value, resolve_row};
 use codes::errors::FieldError;
 use codes::outcome::Outcome;
-use completing::result_coercion::{Typed, object_type};
+use completing::result_coercion::object_type;
 use input_coercion::arguments::coerce_argument_values;
-use input_coercion::check::Coercion;
+use input_coercion::check as coercion;
+use input_coercion::check::Uncoerced;
 use leaves::leaf::Leaf;
 use lookup::named::{field_answer, is_non_null};
 use planning::layout::{DEFINED, TYPENAME, UNDEFINED};
@@ -28,10 +30,11 @@ use rows::document::{field_selection, selection_place};
 use rows::layout::Range;
 use rows::names::name_text;
 use rows::schema::{TypeRef, field_at, type_at, type_ref_at};
+use rows::tables::Tables;
 use tokens::json::put_string;
 use walking::path::{MOST_SEGMENTS, Path, index_segment, name_segment};
 use walking::settle::{fail, moved, settle, stopped, try_nullify};
-use walking::state::{Completed, Done, Failure, Kind, State};
+use walking::state::{Done, Failure, Kind, State};
 use writing::write::put;
 
 // A list of this type of items (its answers), or an object of this type (the answers to its fields).
@@ -65,42 +68,26 @@ pub enum Step {
     Deeper(Deeper),
 }
 
-// A list or an object at a type; or the error that it is there.
-#[derive(Clone, Copy)]
-pub enum Opened {
-    Container(Container),
-    Error(FieldError),
-}
-
-// What comes of a field's arguments and its answer: it is left out, a value is given, it fails, or the run ends with a code.
-#[derive(Clone, Copy)]
-pub enum Answered {
-    Skip,
-    Given(Given),
-    Failed { error: FieldError, place: u32 },
-    Stop(u32),
-}
-
 // A comma, the response key and a colon.
-fn put_key(pool: &[u8], names: &[u32], text: &mut [u8], at: usize, key: u32) -> usize
-    ensures { Wrote text.old text.new at result (keyed_by (name_text pool.now names.now key)) }
+fn put_key(tables: &Tables, text: &mut [u8], at: usize, key: u32) -> usize
+    ensures { let t = lent tables.now in Wrote text.old text.new at result (keyed_by (name_text t.pool t.names key)) }
 {
     let next = put(text, at, b',');
-    let colon = put_string(text, next, name_text(pool, names, key));
+    let colon = put_string(text, next, name_text(tables.pool, tables.names, key));
     put(text, colon, b':')
 }
 
 // CompleteValue of a list, up to its items.
-fn open_list(type_refs: &[u32], ty: u32, rows: Range) -> Opened
+fn open_list(type_refs: &[u32], ty: u32, rows: Range) -> Result<Container, FieldError>
     ensures { OpensList type_refs.now ty rows result }
 {
     match type_ref_at(type_refs, ty) {
         TypeRef::Named {
             name: _,
             nullable: _,
-        } => Opened::Error(FieldError::ListForNonListType),
-        TypeRef::Unknown => Opened::Error(FieldError::UndefinedType),
-        TypeRef::ListOf { inner, nullable } => Opened::Container(Container::List {
+        } => Err(FieldError::ListForNonListType),
+        TypeRef::Unknown => Err(FieldError::UndefinedType),
+        TypeRef::ListOf { inner, nullable } => Ok(Container::List {
             inner: inner,
             nullable: nullable,
             rows: rows,
@@ -109,32 +96,23 @@ fn open_list(type_refs: &[u32], ty: u32, rows: Range) -> Opened
 }
 
 // CompleteValue of an object, up to its fields.
-fn open_object(
-    type_refs: &[u32],
-    types: &[u32],
-    members: &[u32],
-    ty: u32,
-    name: u32,
-    rows: Range,
-) -> Opened
-    requires { Listed types.now × Known types.now }
-    ensures { OpensObject type_refs.now types.now members.now ty name rows result }
+fn open_object(tables: &Tables, ty: u32, name: u32, rows: Range) -> Result<Container, FieldError>
+    requires { let t = lent tables.now in Listed t.types × Known t.types }
+    ensures { let t = lent tables.now in OpensObject t.refs t.types t.members ty name rows result }
 {
-    match object_type(type_refs, types, members, ty, name) {
-        Typed::Error(error) => Opened::Error(error),
-        Typed::Type(object) => Opened::Container(Container::Object {
-            object: object,
-            rows: rows,
-        }),
-    }
+    let object = object_type(tables, ty, name)?;
+    Ok(Container::Object {
+        object: object,
+        rows: rows,
+    })
 }
 
 // A place that was left out.
 fn left_out(s: State) -> Done
-    ensures { result ≡ record { what = Completed.Placed Kind.LeftOut; state = s } }
+    ensures { result ≡ record { what = Ok Kind.LeftOut; state = s } }
 {
     Done {
-        what: Completed::Placed(Kind::LeftOut),
+        what: Ok(Kind::LeftOut),
         state: s,
     }
 }
@@ -155,18 +133,18 @@ fn deepen(
     asked: Asked,
     non_null: bool,
     start: usize,
-    opened: Opened,
+    opened: Result<Container, FieldError>,
     s: State,
 ) -> Step
     requires { path.count < 32 }
     ensures { OpensBehind path last asked non_null start opened text.old errors.old s result text.new errors.new }
 {
     match opened {
-        Opened::Error(error) => {
+        Err(error) => {
             let d = fail(errors, s, Failure::Here, error, asked.place, path, last);
             Step::Finished(finished(text, non_null, start, d))
         }
-        Opened::Container(container) => Step::Deeper(Deeper {
+        Ok(container) => Step::Deeper(Deeper {
             container: container,
             non_null: non_null,
             last: last,
@@ -178,15 +156,7 @@ fn deepen(
 
 // CompleteValue of what was given, behind its label.
 fn complete_value(
-    pool: &[u8],
-    names: &[u32],
-    type_refs: &[u32],
-    types: &[u32],
-    members: &[u32],
-    fields: &[u32],
-    nodes: &[u32],
-    literals: &[u32],
-    variables: &[u32],
+    tables: &Tables,
     text: &mut [u8],
     errors: &mut [u32],
     path: Path,
@@ -198,42 +168,24 @@ fn complete_value(
     given: Given,
     s: State,
 ) -> Step
-    requires completable { Completable types.now nodes.now literals.now variables.now }
+    requires completable { let t = lent tables.now in Completable t.types t.nodes t.literals t.variables }
     requires count_bound { path.count < 32 }
-    ensures { CompletesBehind path last asked pool.now names.now type_refs.now types.now members.now fields.now nodes.now literals.now variables.now ty non_null start given text.old errors.old s result text.new errors.new }
+    ensures { let t = lent tables.now in CompletesBehind path last asked t.pool t.names t.refs t.types t.members t.fields t.nodes t.literals t.variables ty non_null start given text.old errors.old s result text.new errors.new }
 {
     match given {
         Given::Leaf(leaf) => {
-            let d = complete_leaf_value(
-                pool,
-                names,
-                type_refs,
-                types,
-                members,
-                fields,
-                nodes,
-                literals,
-                variables,
-                text,
-                errors,
-                path,
-                last,
-                asked.place,
-                ty,
-                leaf,
-                s,
-            );
+            let d = complete_leaf_value(tables, text, errors, path, last, asked.place, ty, leaf, s);
             Step::Finished(finished(text, non_null, start, d))
         }
         Given::List(rows) => {
-            let opened = open_list(type_refs, ty, rows);
+            let opened = open_list(tables.type_refs, ty, rows);
             deepen(text, errors, path, last, asked, non_null, start, opened, s)
         }
         Given::Object {
             ty: name,
             fields: rows,
         } => {
-            let opened = open_object(type_refs, types, members, ty, name, rows);
+            let opened = open_object(tables, ty, name, rows);
             deepen(text, errors, path, last, asked, non_null, start, opened, s)
         }
     }
@@ -241,99 +193,55 @@ fn complete_value(
 
 // ResolveFieldValue: "no row is an error".
 fn resolve_field_value(
-    arguments: &[u32],
-    given: &[u32],
-    literals: &[u32],
-    variables: &[u32],
-    answers: &[u32],
+    tables: &Tables,
     asked: Asked,
     rows: Range,
     name: u32,
-) -> Resolved
-    requires askable { Askable arguments.now asked × ((row : ℕ) → Leads (answer_at answers.now row)) }
+) -> Result<Option<Given>, FieldError>
+    requires askable { let t = lent tables.now in Askable t.arguments asked × ((row : ℕ) → Leads (answer_at t.answers row)) }
     requires count_bound { rows.first + rows.count ≤ most_answers }
-    ensures { ResolvesField arguments.now given.now literals.now variables.now answers.now asked rows name result }
+    ensures { let t = lent tables.now in ResolvesField t.arguments t.given t.literals t.variables t.answers asked rows name result }
 {
-    match field_answer(answers, rows, name) {
-        None => Resolved::Error,
-        Some(row) => resolve_row(arguments, given, literals, variables, answers, asked, row),
-    }
+    let Some(row) = field_answer(tables.answers, rows, name) else {
+        return Err(FieldError::Resolver);
+    };
+    resolve_row(tables, asked, row)
 }
 
 // The resolver's error stands at the first field.
-fn answer_of(place: u32, resolved: Resolved) -> Answered
+fn answer_of(
+    place: u32,
+    resolved: Result<Option<Given>, FieldError>,
+) -> Result<Option<Given>, Uncoerced>
     ensures { result ≡ answered_of place resolved }
 {
     match resolved {
-        Resolved::Skip => Answered::Skip,
-        Resolved::Error => Answered::Failed {
-            error: FieldError::Resolver,
+        Ok(given) => Ok(given),
+        Err(error) => Err(Uncoerced::Failed(coercion::Failure {
+            error: error,
             place: place,
-        },
-        Resolved::Given(given) => Answered::Given(given),
+        })),
     }
 }
 
-// The arguments of a field, and its answer.
+// The arguments of a field, and its answer: what is given, nothing where it is left out; or the field fails, or the run stops.
 fn answer_field(
-    type_refs: &[u32],
-    types: &[u32],
-    fields: &[u32],
-    arguments: &[u32],
-    given: &[u32],
-    nodes: &[u32],
-    literals: &[u32],
-    variables: &[u32],
-    answers: &[u32],
+    tables: &Tables,
     asked: Asked,
     rows: Range,
     name: u32,
-) -> Answered
-    requires coercible { Coercible types.now nodes.now literals.now variables.now × Resolvable arguments.now nodes.now answers.now asked }
+) -> Result<Option<Given>, Uncoerced>
+    requires coercible { let t = lent tables.now in Coercible t.types t.nodes t.literals t.variables × Resolvable t.arguments t.nodes t.answers asked }
     requires count_bound { rows.first + rows.count ≤ most_answers }
-    ensures { AnswersField type_refs.now types.now fields.now arguments.now given.now nodes.now literals.now variables.now answers.now asked rows name result }
+    ensures { let t = lent tables.now in AnswersField t.refs t.types t.fields t.arguments t.given t.nodes t.literals t.variables t.answers asked rows name result }
 {
-    match coerce_argument_values(
-        type_refs,
-        types,
-        fields,
-        arguments,
-        given,
-        nodes,
-        literals,
-        variables,
-        asked.definitions,
-        asked.written,
-    ) {
-        Coercion::Value => answer_of(
-            asked.place,
-            resolve_field_value(
-                arguments, given, literals, variables, answers, asked, rows, name,
-            ),
-        ),
-        Coercion::Failed(failure) => {
-            let error = failure.error;
-            Answered::Failed {
-                error: error,
-                place: failure.place,
-            }
-        }
-        Coercion::TooFar => Answered::Stop(Outcome::TooFar.code()),
-        Coercion::VariableInLiteral => Answered::Stop(Outcome::VariableInLiteral.code()),
-    }
+    coerce_argument_values(tables, asked.definitions, asked.written)?;
+    answer_of(asked.place, resolve_field_value(tables, asked, rows, name))
 }
 
 // A field that was answered, behind its label.
 fn complete_answered(
-    pool: &[u8],
-    names: &[u32],
-    type_refs: &[u32],
-    types: &[u32],
-    members: &[u32],
-    fields: &[u32],
-    nodes: &[u32],
-    literals: &[u32],
-    variables: &[u32],
+    tables: &Tables,
     text: &mut [u8],
     errors: &mut [u32],
     path: Path,
@@ -342,38 +250,34 @@ fn complete_answered(
     ty: u32,
     non_null: bool,
     start: usize,
-    answer: Answered,
+    answer: Result<Option<Given>, Uncoerced>,
     s: State,
 ) -> Step
-    requires completable { Completable types.now nodes.now literals.now variables.now }
+    requires completable { let t = lent tables.now in Completable t.types t.nodes t.literals t.variables }
     requires count_bound { path.count < 32 }
-    ensures { AnswersBehind path last asked pool.now names.now type_refs.now types.now members.now fields.now nodes.now literals.now variables.now ty non_null start answer text.old errors.old s result text.new errors.new }
+    ensures { let t = lent tables.now in AnswersBehind path last asked t.pool t.names t.refs t.types t.members t.fields t.nodes t.literals t.variables ty non_null start answer text.old errors.old s result text.new errors.new }
 {
     match answer {
-        Answered::Skip => Step::Finished(left_out(moved(s, start))),
-        Answered::Given(given) => complete_value(
-            pool, names, type_refs, types, members, fields, nodes, literals, variables, text,
-            errors, path, last, asked, ty, non_null, start, given, s,
+        Ok(None) => Step::Finished(left_out(moved(s, start))),
+        Ok(Some(given)) => complete_value(
+            tables, text, errors, path, last, asked, ty, non_null, start, given, s,
         ),
-        Answered::Failed { error, place } => {
-            let d = fail(errors, s, Failure::Here, error, place, path, last);
-            Step::Finished(finished(text, non_null, start, d))
-        }
-        Answered::Stop(code) => Step::Finished(finished(text, non_null, start, stopped(s, code))),
+        Err(lost) => match lost {
+            Uncoerced::Failed(failure) => {
+                let error = failure.error;
+                let d = fail(errors, s, Failure::Here, error, failure.place, path, last);
+                Step::Finished(finished(text, non_null, start, d))
+            }
+            Uncoerced::Stop(outcome) => {
+                Step::Finished(finished(text, non_null, start, stopped(s, outcome)))
+            }
+        },
     }
 }
 
 // `__typename`, which is never null in place of another value.
 fn execute_typename(
-    pool: &[u8],
-    names: &[u32],
-    type_refs: &[u32],
-    types: &[u32],
-    members: &[u32],
-    fields: &[u32],
-    nodes: &[u32],
-    literals: &[u32],
-    variables: &[u32],
+    tables: &Tables,
     text: &mut [u8],
     errors: &mut [u32],
     path: Path,
@@ -384,21 +288,13 @@ fn execute_typename(
     start: usize,
     s: State,
 ) -> Done
-    requires completable { Completable types.now nodes.now literals.now variables.now }
+    requires completable { let t = lent tables.now in Completable t.types t.nodes t.literals t.variables }
     requires count_bound { path.count < 32 }
-    ensures { TypenameBehind path last pool.now names.now type_refs.now types.now members.now fields.now nodes.now literals.now variables.now place ty object start text.old errors.old s result text.new errors.new }
+    ensures { let t = lent tables.now in TypenameBehind path last t.pool t.names t.refs t.types t.members t.fields t.nodes t.literals t.variables place ty object start text.old errors.old s result text.new errors.new }
 {
-    let def = type_at(types, object);
+    let def = type_at(tables.types, object);
     let d = complete_leaf_value(
-        pool,
-        names,
-        type_refs,
-        types,
-        members,
-        fields,
-        nodes,
-        literals,
-        variables,
+        tables,
         text,
         errors,
         path,
@@ -413,19 +309,7 @@ fn execute_typename(
 
 // A field, with its comma and its key, as far as it goes without going further down.
 pub fn execute_field(
-    pool: &[u8],
-    names: &[u32],
-    type_refs: &[u32],
-    types: &[u32],
-    members: &[u32],
-    fields: &[u32],
-    arguments: &[u32],
-    selections: &[u32],
-    given: &[u32],
-    nodes: &[u32],
-    literals: &[u32],
-    variables: &[u32],
-    answers: &[u32],
+    tables: &Tables,
     text: &mut [u8],
     errors: &mut [u32],
     path: Path,
@@ -435,29 +319,28 @@ pub fn execute_field(
     rows: Range,
     s: State,
 ) -> Step
-    requires answerable { Answerable types.now fields.now arguments.now selections.now nodes.now literals.now variables.now answers.now }
+    requires answerable { let t = lent tables.now in Answerable t.types t.fields t.arguments t.selections t.nodes t.literals t.variables t.answers }
     requires count_bound { (path.count ≤ 32) × (rows.first + rows.count ≤ most_answers) }
-    requires field_row { FieldRow selections.now first × (own ≡ definition_code (definition_of (schema types.now fields.now) object (field_selection selections.now first).name)) }
-    ensures { ExecutesField pool.now names.now type_refs.now types.now members.now fields.now arguments.now selections.now given.now nodes.now literals.now variables.now answers.now path first object rows text.old errors.old s result text.new errors.new }
+    requires field_row { let t = lent tables.now in FieldRow t.selections first × (own ≡ definition_code (definition_of (schema t.types t.fields) object (field_selection t.selections first).name)) }
+    ensures { let t = lent tables.now in ExecutesField t.pool t.names t.refs t.types t.members t.fields t.arguments t.selections t.given t.nodes t.literals t.variables t.answers path first object rows text.old errors.old s result text.new errors.new }
 {
     if own == UNDEFINED {
         return Step::Finished(left_out(s));
     }
     if MOST_SEGMENTS <= path.count {
-        return Step::Finished(stopped(s, Outcome::TooFar.code()));
+        return Step::Finished(stopped(s, Outcome::TooFar));
     }
-    let field = field_selection(selections, first);
-    let place = selection_place(selections, first);
+    let field = field_selection(tables.selections, first);
+    let place = selection_place(tables.selections, first);
     let last = name_segment(field.key);
     let start = s.at;
-    let open = moved(s, put_key(pool, names, text, start, field.key));
+    let open = moved(s, put_key(tables, text, start, field.key));
     if own == TYPENAME {
         return Step::Finished(execute_typename(
-            pool, names, type_refs, types, members, fields, nodes, literals, variables, text,
-            errors, path, last, place, field.ty, object, start, open,
+            tables, text, errors, path, last, place, field.ty, object, start, open,
         ));
     }
-    let def = field_at(fields, (own - DEFINED) as u32);
+    let def = field_at(tables.fields, (own - DEFINED) as u32);
     let definitions = def.arguments;
     let written = field.given;
     let asked = Asked {
@@ -465,27 +348,16 @@ pub fn execute_field(
         written: written,
         place: place,
     };
-    let answer = answer_field(
-        type_refs, types, fields, arguments, given, nodes, literals, variables, answers, asked,
-        rows, field.name,
-    );
+    let answer = answer_field(tables, asked, rows, field.name);
     complete_answered(
-        pool,
-        names,
-        type_refs,
-        types,
-        members,
-        fields,
-        nodes,
-        literals,
-        variables,
+        tables,
         text,
         errors,
         path,
         last,
         asked,
         field.ty,
-        is_non_null(type_refs, def.ty),
+        is_non_null(tables.type_refs, def.ty),
         start,
         answer,
         open,
@@ -494,18 +366,7 @@ pub fn execute_field(
 
 // An item, with its comma, as far as it goes without going further down.
 pub fn complete_item(
-    pool: &[u8],
-    names: &[u32],
-    type_refs: &[u32],
-    types: &[u32],
-    members: &[u32],
-    fields: &[u32],
-    arguments: &[u32],
-    given: &[u32],
-    nodes: &[u32],
-    literals: &[u32],
-    variables: &[u32],
-    answers: &[u32],
+    tables: &Tables,
     text: &mut [u8],
     errors: &mut [u32],
     path: Path,
@@ -515,49 +376,37 @@ pub fn complete_item(
     row: u32,
     s: State,
 ) -> Step
-    requires itemizable { Itemizable types.now arguments.now nodes.now literals.now variables.now answers.now asked }
+    requires itemizable { let t = lent tables.now in Itemizable t.types t.arguments t.nodes t.literals t.variables t.answers asked }
     requires count_bound { (path.count ≤ 32) × (index < 4096) }
-    ensures { CompletesItem pool.now names.now type_refs.now types.now members.now fields.now arguments.now given.now nodes.now literals.now variables.now answers.now path index asked inner row text.old errors.old s result text.new errors.new }
+    ensures { let t = lent tables.now in CompletesItem t.pool t.names t.refs t.types t.members t.fields t.arguments t.given t.nodes t.literals t.variables t.answers path index asked inner row text.old errors.old s result text.new errors.new }
 {
     if MOST_SEGMENTS <= path.count {
-        return Step::Finished(stopped(s, Outcome::TooFar.code()));
+        return Step::Finished(stopped(s, Outcome::TooFar));
     }
     let last = index_segment(index);
-    match resolve_row(arguments, given, literals, variables, answers, asked, row) {
-        Resolved::Skip => Step::Finished(left_out(s)),
-        Resolved::Error => Step::Finished(fail(
-            errors,
-            s,
-            Failure::PastList,
-            FieldError::Resolver,
-            asked.place,
-            path,
-            last,
-        )),
-        Resolved::Given(value) => {
-            let start = s.at;
-            let open = moved(s, put(text, start, b','));
-            complete_value(
-                pool,
-                names,
-                type_refs,
-                types,
-                members,
-                fields,
-                nodes,
-                literals,
-                variables,
-                text,
-                errors,
-                path,
-                last,
-                asked,
-                inner,
-                is_non_null(type_refs, inner),
-                start,
-                value,
-                open,
-            )
+    let given = match resolve_row(tables, asked, row) {
+        Ok(given) => given,
+        Err(error) => {
+            let d = fail(errors, s, Failure::PastList, error, asked.place, path, last);
+            return Step::Finished(d);
         }
-    }
+    };
+    let Some(value) = given else {
+        return Step::Finished(left_out(s));
+    };
+    let start = s.at;
+    let open = moved(s, put(text, start, b','));
+    complete_value(
+        tables,
+        text,
+        errors,
+        path,
+        last,
+        asked,
+        inner,
+        is_non_null(tables.type_refs, inner),
+        start,
+        value,
+        open,
+    )
 }

@@ -6,14 +6,16 @@ ghost use Rattle.values.specs.Put.{Parted};
 ghost use Rattle.input_coercion.specs.Coerced.{Coercible};
 ghost use Rattle.resolving.specs.Sound.{Leads, Askable};
 ghost use Rattle.resolving.specs.Resolve.{ResolvesRow, EchoesArgument, CompletesAt};
+ghost use Rattle.tables.specs.Tables.{lent};
 
+use codes::errors::FieldError;
 use codes::outcome::Outcome;
-use completing::result_coercion::{Verdict, judge_leaf};
+use completing::result_coercion::judge_leaf;
 use echoing::echo::{Source, argument_source};
 use leaves::leaf::{Leaf, leaf_sort, leaf_string, put_leaf};
 use rows::answers::{Answer, answer_at};
 use rows::layout::Range;
-use values::node::Put;
+use rows::tables::Tables;
 use walking::path::Path;
 use walking::settle::{fail, placed, stopped};
 use walking::state::{Done, Failure, Kind, State};
@@ -26,14 +28,6 @@ pub enum Given {
     Object { ty: u32, fields: Range },
 }
 
-// Or it gave nothing, but a skip or an error.
-#[derive(Clone, Copy)]
-pub enum Resolved {
-    Skip,
-    Error,
-    Given(Given),
-}
-
 // What items and errors need of a field: its arguments, as they are defined and as they are written, and its place.
 #[derive(Clone, Copy)]
 pub struct Asked {
@@ -42,75 +36,45 @@ pub struct Asked {
     pub place: u32,
 }
 
-// The argument of this name, which is echoed.
-fn echoed(
-    arguments: &[u32],
-    given: &[u32],
-    literals: &[u32],
-    variables: &[u32],
-    asked: Asked,
-    name: u32,
-) -> Resolved
-    requires { Askable arguments.now asked }
-    ensures { EchoesArgument arguments.now given.now literals.now variables.now asked name result }
+// The argument of this name, which is echoed; the resolver's error where it has no value.
+fn echoed(tables: &Tables, asked: Asked, name: u32) -> Result<Option<Given>, FieldError>
+    requires { let t = lent tables.now in Askable t.arguments asked }
+    ensures { let t = lent tables.now in EchoesArgument t.arguments t.given t.literals t.variables asked name result }
 {
-    match argument_source(
-        arguments,
-        given,
-        literals,
-        variables,
-        asked.definitions,
-        asked.written,
-        name,
-    ) {
-        Source::Absent => Resolved::Error,
-        Source::Node(row) => Resolved::Given(Given::Leaf(Leaf::Node(row))),
-        Source::Literal { ty, row } => {
-            Resolved::Given(Given::Leaf(Leaf::Literal { ty: ty, row: row }))
-        },
-        Source::Default(row) => Resolved::Given(Given::Leaf(Leaf::Default(row))),
-    }
+    let Some(source) = argument_source(tables, asked.definitions, asked.written, name) else {
+        return Err(FieldError::Resolver);
+    };
+    let leaf = match source {
+        Source::Node(row) => Leaf::Node(row),
+        Source::Literal { ty, row } => Leaf::Literal { ty: ty, row: row },
+        Source::Default(row) => Leaf::Default(row),
+    };
+    Ok(Some(Given::Leaf(leaf)))
 }
 
-// The answer in a row, to a field that is asked so.
-pub fn resolve_row(
-    arguments: &[u32],
-    given: &[u32],
-    literals: &[u32],
-    variables: &[u32],
-    answers: &[u32],
-    asked: Asked,
-    row: u32,
-) -> Resolved
-    requires askable { Askable arguments.now asked }
-    requires leads { Leads (answer_at answers.now row) }
-    ensures { ResolvesRow arguments.now given.now literals.now variables.now answers.now asked row result }
+// The answer in a row, to a field that is asked so: what was given, nothing where it is a skip, or the resolver's error.
+pub fn resolve_row(tables: &Tables, asked: Asked, row: u32) -> Result<Option<Given>, FieldError>
+    requires askable { let t = lent tables.now in Askable t.arguments asked }
+    requires leads { let t = lent tables.now in Leads (answer_at t.answers row) }
+    ensures { let t = lent tables.now in ResolvesRow t.arguments t.given t.literals t.variables t.answers asked row result }
 {
-    match answer_at(answers, row) {
-        Answer::Skip => Resolved::Skip,
-        Answer::Error => Resolved::Error,
-        Answer::Leaf(node) => Resolved::Given(Given::Leaf(Leaf::Node(node))),
-        Answer::List(rows) => Resolved::Given(Given::List(rows)),
-        Answer::Object { ty, fields } => Resolved::Given(Given::Object {
+    match answer_at(tables.answers, row) {
+        Answer::Skip => Ok(None),
+        Answer::Error => Err(FieldError::Resolver),
+        Answer::Leaf(node) => Ok(Some(Given::Leaf(Leaf::Node(node)))),
+        Answer::List(rows) => Ok(Some(Given::List(rows))),
+        Answer::Object { ty, fields } => Ok(Some(Given::Object {
             ty: ty,
             fields: fields,
-        }),
-        Answer::Echo(name) => echoed(arguments, given, literals, variables, asked, name),
-        Answer::Unknown => Resolved::Error,
+        })),
+        Answer::Echo(name) => echoed(tables, asked, name),
+        Answer::Unknown => Err(FieldError::Resolver),
     }
 }
 
 // CompleteValue of a leaf. It is written before it is judged: too many containers come before what is wrong with its type.
 pub fn complete_leaf_value(
-    pool: &[u8],
-    names: &[u32],
-    type_refs: &[u32],
-    types: &[u32],
-    members: &[u32],
-    fields: &[u32],
-    nodes: &[u32],
-    literals: &[u32],
-    variables: &[u32],
+    tables: &Tables,
     text: &mut [u8],
     errors: &mut [u32],
     path: Path,
@@ -120,20 +84,17 @@ pub fn complete_leaf_value(
     leaf: Leaf,
     s: State,
 ) -> Done
-    requires listed { Listed types.now × Coercible types.now nodes.now literals.now variables.now × Parted nodes.now }
+    requires listed { let t = lent tables.now in Listed t.types × Coercible t.types t.nodes t.literals t.variables × Parted t.nodes }
     requires count_bound { path.count ≤ 32 }
-    ensures { CompletesAt pool.now names.now type_refs.now types.now members.now fields.now nodes.now literals.now variables.now ty leaf place path last text.old errors.old s result text.new errors.new }
+    ensures { let t = lent tables.now in CompletesAt t.pool t.names t.refs t.types t.members t.fields t.nodes t.literals t.variables ty leaf place path last text.old errors.old s result text.new errors.new }
 {
-    let written = put_leaf(
-        pool, names, type_refs, types, fields, nodes, literals, variables, text, s.at, leaf,
-    );
-    let Put::At(end) = written else {
-        return stopped(s, Outcome::TooFar.code());
+    let Some(end) = put_leaf(tables, text, s.at, leaf) else {
+        return stopped(s, Outcome::TooFar);
     };
-    let sort = leaf_sort(type_refs, types, nodes, literals, leaf);
-    let string = leaf_string(pool, names, nodes, literals, leaf);
-    match judge_leaf(pool, names, type_refs, types, members, ty, sort, string) {
-        Verdict::Fits => placed(s, end, Kind::Leaf),
-        Verdict::Error(error) => fail(errors, s, Failure::Here, error, place, path, last),
+    let sort = leaf_sort(tables, leaf);
+    let string = leaf_string(tables, leaf);
+    match judge_leaf(tables, ty, sort, string) {
+        Ok(()) => placed(s, end, Kind::Leaf),
+        Err(error) => fail(errors, s, Failure::Here, error, place, path, last),
     }
 }

@@ -7,7 +7,7 @@ use crate::layout::{Range, cell};
 
 pub const ANSWER_WIDTH: usize = 5;
 
-#[derive(Clone, Copy)]
+#[derive(Clone, Copy, PartialEq, Eq, Debug)]
 pub enum Answer {
     Skip,
     Error,
@@ -18,6 +18,7 @@ pub enum Answer {
     Unknown,
 }
 
+// It takes several words, so it stays a function: `From` of a tuple is no plainer.
 fn answer_of(kind: u32, a: u32, b: u32, c: u32) -> Answer
     ensures { result ≡ answer_of kind a b c }
 {
@@ -35,6 +36,7 @@ fn answer_of(kind: u32, a: u32, b: u32, c: u32) -> Answer
     }
 }
 
+#[tactic(auto, unfolding(crate::specs::Answers::answer_at))]
 pub fn answer_at(answers: &[u32], row: u32) -> Answer
     ensures { result ≡ answer_at answers.now row }
 {

@@ -19,7 +19,7 @@ pub const GIVEN_WIDTH: usize = 2;
 pub const FRAGMENT_WIDTH: usize = 3;
 
 // A skip or an include.
-#[derive(Clone, Copy)]
+#[derive(Clone, Copy, PartialEq, Eq, Debug)]
 pub enum Condition {
     Absent,
     False,
@@ -27,8 +27,9 @@ pub enum Condition {
     Variable(u32),
 }
 
-// A field of a selection set; its child set is 0 where it has none.
-#[derive(Clone, Copy)]
+// A field of a selection set; its child set is 0 where it has none. That is the word itself and no `Option`: the definition
+// `field_selection` has it so, and the rules speak of every number in that column.
+#[derive(Clone, Copy, PartialEq, Eq, Debug)]
 pub struct FieldSelection {
     pub name: u32,
     pub key: u32,
@@ -37,7 +38,7 @@ pub struct FieldSelection {
     pub ty: u32,
 }
 
-#[derive(Clone, Copy)]
+#[derive(Clone, Copy, PartialEq, Eq, Debug)]
 pub enum Selected {
     Field(FieldSelection),
     Spread { name: u32 },
@@ -45,7 +46,7 @@ pub enum Selected {
     Unknown,
 }
 
-#[derive(Clone, Copy)]
+#[derive(Clone, Copy, PartialEq, Eq, Debug)]
 pub struct Selection {
     pub what: Selected,
     pub skip: Condition,
@@ -53,13 +54,13 @@ pub struct Selection {
     pub place: u32,
 }
 
-#[derive(Clone, Copy)]
+#[derive(Clone, Copy, PartialEq, Eq, Debug)]
 pub struct Given {
     pub name: u32,
     pub literal: u32,
 }
 
-#[derive(Clone, Copy)]
+#[derive(Clone, Copy, PartialEq, Eq, Debug)]
 pub struct Fragment {
     pub name: u32,
     pub condition: u32,
@@ -67,6 +68,7 @@ pub struct Fragment {
 }
 
 // The selections of a set.
+#[tactic(auto, unfolding(crate::specs::Document::set_at))]
 pub fn set_at(sets: &[u32], row: u32) -> Range
     ensures { result ≡ set_at sets.now row }
 {
@@ -77,22 +79,21 @@ pub fn set_at(sets: &[u32], row: u32) -> Range
     }
 }
 
-fn condition_of(word: u32) -> Condition
-    ensures { result ≡ condition_of word }
-{
-    if word == 0 {
-        return Condition::Absent;
+impl From<u32> for Condition {
+    ghost from_gives = { λ word condition. condition ≡ condition_of word };
+
+    fn from(word: u32) -> Condition {
+        match word {
+            0 => Condition::Absent,
+            1 => Condition::False,
+            2 => Condition::True,
+            _ => Condition::Variable(word - 3),
+        }
     }
-    if word == 1 {
-        return Condition::False;
-    }
-    if word == 2 {
-        return Condition::True;
-    }
-    Condition::Variable(word - 3)
 }
 
 // A selection as a field, whatever it is.
+#[tactic(auto, unfolding(crate::specs::Document::field_selection))]
 pub fn field_selection(selections: &[u32], row: u32) -> FieldSelection
     ensures { result ≡ field_selection selections.now row }
 {
@@ -110,12 +111,14 @@ pub fn field_selection(selections: &[u32], row: u32) -> FieldSelection
 }
 
 // Where a selection stands in the document.
+#[tactic(auto, unfolding(crate::specs::Document::selection_at))]
 pub fn selection_place(selections: &[u32], row: u32) -> u32
     ensures { result ≡ (selection_at selections.now row).place }
 {
     cell(selections, SELECTION_WIDTH, row as usize, SELECTION_PLACE)
 }
 
+#[tactic(auto, unfolding(crate::specs::Document::spread_selection))]
 fn spread_selection(selections: &[u32], row: u32) -> Selected
     ensures { result ≡ spread_selection selections.now row }
 {
@@ -124,6 +127,7 @@ fn spread_selection(selections: &[u32], row: u32) -> Selected
     }
 }
 
+#[tactic(auto, unfolding(crate::specs::Document::inline_selection))]
 fn inline_selection(selections: &[u32], row: u32) -> Selected
     ensures { result ≡ inline_selection selections.now row }
 {
@@ -136,6 +140,7 @@ fn inline_selection(selections: &[u32], row: u32) -> Selected
 }
 
 // What a selection is, without its conditions and its place.
+#[tactic(auto, unfolding(crate::specs::Document::selection_of))]
 pub fn what_is_selected(selections: &[u32], row: u32) -> Selected
     ensures { result ≡ selection_of selections.now row }
 {
@@ -148,12 +153,13 @@ pub fn what_is_selected(selections: &[u32], row: u32) -> Selected
     }
 }
 
+#[tactic(auto, unfolding(crate::specs::Document::selection_at))]
 pub fn selection_at(selections: &[u32], row: u32) -> Selection
     ensures { result ≡ selection_at selections.now row }
 {
     let at = row as usize;
-    let skip = condition_of(cell(selections, SELECTION_WIDTH, at, SELECTION_SKIP));
-    let include = condition_of(cell(selections, SELECTION_WIDTH, at, SELECTION_INCLUDE));
+    let skip = Condition::from(cell(selections, SELECTION_WIDTH, at, SELECTION_SKIP));
+    let include = Condition::from(cell(selections, SELECTION_WIDTH, at, SELECTION_INCLUDE));
     let place = cell(selections, SELECTION_WIDTH, at, SELECTION_PLACE);
     let what = what_is_selected(selections, row);
     Selection {
@@ -164,6 +170,7 @@ pub fn selection_at(selections: &[u32], row: u32) -> Selection
     }
 }
 
+#[tactic(auto, unfolding(crate::specs::Document::given_at))]
 pub fn given_at(given: &[u32], row: u32) -> Given
     ensures { result ≡ given_at given.now row }
 {
@@ -174,6 +181,7 @@ pub fn given_at(given: &[u32], row: u32) -> Given
     }
 }
 
+#[tactic(auto, unfolding(crate::specs::Document::fragment_at))]
 pub fn fragment_at(fragments: &[u32], row: u32) -> Fragment
     ensures { result ≡ fragment_at fragments.now row }
 {

@@ -16,7 +16,7 @@ pub const LITERAL_WIDTH: usize = 5;
 pub const VARIABLE_WIDTH: usize = 2;
 
 // A JSON value. Of an integer the low half stands first; a negative one is given by its magnitude.
-#[derive(Clone, Copy)]
+#[derive(Clone, Copy, PartialEq, Eq, Debug)]
 pub enum Node {
     Null,
     False,
@@ -31,7 +31,7 @@ pub enum Node {
 }
 
 // A literal of the document or of a default. An integer is given by its magnitude.
-#[derive(Clone, Copy)]
+#[derive(Clone, Copy, PartialEq, Eq, Debug)]
 pub enum Literal {
     Null,
     False,
@@ -47,12 +47,13 @@ pub enum Literal {
     Unknown,
 }
 
-#[derive(Clone, Copy)]
+#[derive(Clone, Copy, PartialEq, Eq, Debug)]
 pub struct VariableValue {
     pub name: u32,
     pub node: u32,
 }
 
+// It takes several words, so it stays a function: `From` of a tuple is no plainer.
 fn node_of(kind: u32, a: u32, b: u32) -> Node
     ensures { result ≡ node_of kind a b }
 {
@@ -70,6 +71,7 @@ fn node_of(kind: u32, a: u32, b: u32) -> Node
     }
 }
 
+#[tactic(auto, unfolding(crate::specs::Json::node_at))]
 pub fn node_at(nodes: &[u32], row: u32) -> Node
     ensures { result ≡ node_at nodes.now row }
 {
@@ -81,6 +83,7 @@ pub fn node_at(nodes: &[u32], row: u32) -> Node
 }
 
 // The key of a node that is a child of an object.
+#[tactic(auto, unfolding(crate::specs::Json::node_key))]
 pub fn node_key(nodes: &[u32], row: usize) -> Text
     requires { row < 2 ^ 40 }
     ensures { result ≡ node_key nodes.now row }
@@ -91,6 +94,7 @@ pub fn node_key(nodes: &[u32], row: usize) -> Text
     }
 }
 
+// It takes several words, so it stays a function: `From` of a tuple is no plainer.
 fn literal_of(kind: u32, a: u32, b: u32) -> Literal
     ensures { result ≡ literal_of kind a b }
 {
@@ -110,6 +114,7 @@ fn literal_of(kind: u32, a: u32, b: u32) -> Literal
     }
 }
 
+#[tactic(auto, unfolding(crate::specs::Json::literal_at))]
 pub fn literal_at(literals: &[u32], row: u32) -> Literal
     ensures { result ≡ literal_at literals.now row }
 {
@@ -133,6 +138,7 @@ pub fn literal_key(literals: &[u32], row: u32) -> u32
     cell(literals, LITERAL_WIDTH, row as usize, LITERAL_KEY)
 }
 
+#[tactic(auto, unfolding(crate::specs::Json::variable_at))]
 pub fn variable_at(variables: &[u32], row: u32) -> VariableValue
     ensures { result ≡ variable_at variables.now row }
 {

@@ -14,3 +14,4 @@ pub mod limits;
 pub mod names;
 pub mod schema;
 pub mod strings;
+pub mod tables;

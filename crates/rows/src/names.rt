@@ -1,5 +1,5 @@
 // The table of names.
-ghost use Rattle.std.specs.Prelude.{◌≡◌, ◌<◌};
+ghost use Rattle.std.specs.Prelude.{◌≡◌};
 ghost use Rattle.rows.specs.Names.{name_at, name_text};
 
 use crate::columns::{NAME_LENGTH, NAME_START};
@@ -8,6 +8,7 @@ use crate::strings::{Text, text_of};
 
 pub const NAME_WIDTH: usize = 2;
 
+#[tactic(auto, unfolding(crate::specs::Names::name_at))]
 pub fn name_at(names: &[u32], row: u32) -> Text
     ensures { result ≡ name_at names.now row }
 {

@@ -20,14 +20,14 @@ pub const FIELD_WIDTH: usize = 6;
 
 pub const ARGUMENT_WIDTH: usize = 4;
 
-#[derive(Clone, Copy)]
+#[derive(Clone, Copy, PartialEq, Eq, Debug)]
 pub enum TypeRef {
     Named { name: u32, nullable: bool },
     ListOf { inner: u32, nullable: bool },
     Unknown,
 }
 
-#[derive(Clone, Copy)]
+#[derive(Clone, Copy, PartialEq, Eq, Debug)]
 pub enum TypeKind {
     Scalar,
     Enum,
@@ -39,7 +39,7 @@ pub enum TypeKind {
 }
 
 // A type. Its members are an enum's values, a union's members, or the interfaces of an object or interface.
-#[derive(Clone, Copy)]
+#[derive(Clone, Copy, PartialEq, Eq, Debug)]
 pub struct TypeDef {
     pub name: u32,
     pub kind: TypeKind,
@@ -47,7 +47,7 @@ pub struct TypeDef {
     pub members: Range,
 }
 
-#[derive(Clone, Copy)]
+#[derive(Clone, Copy, PartialEq, Eq, Debug)]
 pub struct Field {
     pub name: u32,
     pub ty: u32,
@@ -56,7 +56,7 @@ pub struct Field {
     pub arguments: Range,
 }
 
-#[derive(Clone, Copy)]
+#[derive(Clone, Copy, PartialEq, Eq, Debug)]
 pub struct Argument {
     pub name: u32,
     pub ty: u32,
@@ -64,6 +64,7 @@ pub struct Argument {
     pub place: u32,
 }
 
+// It takes several words, so it stays a function: `From` of a tuple is no plainer.
 fn type_ref_of(kind: u32, non_null: u32, of: u32) -> TypeRef
     ensures { result ≡ type_ref_of kind non_null of }
 {
@@ -81,6 +82,7 @@ fn type_ref_of(kind: u32, non_null: u32, of: u32) -> TypeRef
     }
 }
 
+#[tactic(auto, unfolding(crate::specs::Schema::type_ref_at))]
 pub fn type_ref_at(type_refs: &[u32], row: u32) -> TypeRef
     ensures { result ≡ type_ref_at type_refs.now row }
 {
@@ -91,25 +93,28 @@ pub fn type_ref_at(type_refs: &[u32], row: u32) -> TypeRef
     type_ref_of(kind, non_null, of)
 }
 
-fn type_kind(kind: u32) -> TypeKind
-    ensures { result ≡ kind_of kind }
-{
-    match kind {
-        0 => TypeKind::Scalar,
-        1 => TypeKind::Enum,
-        2 => TypeKind::Object,
-        3 => TypeKind::Interface,
-        4 => TypeKind::Union,
-        5 => TypeKind::InputObject,
-        _ => TypeKind::Unknown,
+impl From<u32> for TypeKind {
+    ghost from_gives = { λ word kind. kind ≡ kind_of word };
+
+    fn from(word: u32) -> TypeKind {
+        match word {
+            0 => TypeKind::Scalar,
+            1 => TypeKind::Enum,
+            2 => TypeKind::Object,
+            3 => TypeKind::Interface,
+            4 => TypeKind::Union,
+            5 => TypeKind::InputObject,
+            _ => TypeKind::Unknown,
+        }
     }
 }
 
+#[tactic(auto, unfolding(crate::specs::Schema::type_at))]
 pub fn type_at(types: &[u32], row: u32) -> TypeDef
     ensures { result ≡ type_at types.now row }
 {
     let at = row as usize;
-    let kind = type_kind(cell(types, TYPE_WIDTH, at, TYPE_KIND));
+    let kind = TypeKind::from(cell(types, TYPE_WIDTH, at, TYPE_KIND));
     TypeDef {
         name: cell(types, TYPE_WIDTH, at, TYPE_NAME),
         kind,
@@ -131,6 +136,7 @@ pub fn member_at(members: &[u32], row: u32) -> u32
     cell(members, MEMBER_WIDTH, row as usize, MEMBER_NAME)
 }
 
+#[tactic(auto, unfolding(crate::specs::Schema::field_at))]
 pub fn field_at(fields: &[u32], row: u32) -> Field
     ensures { result ≡ field_at fields.now row }
 {
@@ -148,6 +154,7 @@ pub fn field_at(fields: &[u32], row: u32) -> Field
     }
 }
 
+#[tactic(auto, unfolding(crate::specs::Schema::argument_at))]
 pub fn argument_at(arguments: &[u32], row: u32) -> Argument
     ensures { result ≡ argument_at arguments.now row }
 {

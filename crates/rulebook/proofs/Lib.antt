@@ -1,1 +1,1 @@
-pub mod Chapters
+pub mod First

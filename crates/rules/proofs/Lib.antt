@@ -1,3 +1,4 @@
-pub mod Marks
+pub mod MetWords
+pub mod Ranges
 pub mod Reserved
 pub mod Words

@@ -8,6 +8,11 @@ use rows::answers::{ANSWER_WIDTH, Answer, answer_at, answer_name};
 use rows::columns::{ANSWER_KIND, ANSWER_NAME, ANSWER_ONE, ANSWER_THREE, ANSWER_TWO};
 use rows::layout::{Range, cell};
 
+// Kinds that searches ask for before they read more of a row. `answer_of` of the crate `rows` says what each number is.
+pub const LEAF_ANSWER: u32 = 2;
+
+pub const OBJECT_ANSWER: u32 = 4;
+
 // Of an answer's words: the kind, and three by kind.
 pub fn answer_is_lawful(
     names: u32,
@@ -21,8 +26,7 @@ pub fn answer_is_lawful(
     ensures { result ≡ answer_lawful names nodes answers (answer_of kind a b c) }
 {
     match kind {
-        0 => true,
-        1 => true,
+        0 | 1 => true,
         2 => a < nodes,
         3 => is_within(answers, Range { first: a, count: b }),
         4 => (a < names) & is_within(answers, Range { first: b, count: c }),
@@ -48,13 +52,8 @@ fn answer_parts(answers: &[u32], answer: Answer) -> bool
     ensures { result ≡ answer_parts answers.now answer }
 {
     match answer {
-        Answer::Object { ty: _, fields } => is_distinct(answers, ANSWER_WIDTH, ANSWER_NAME, fields),
-        Answer::Skip => true,
-        Answer::Error => true,
-        Answer::Leaf(_) => true,
-        Answer::List(_) => true,
-        Answer::Echo(_) => true,
-        Answer::Unknown => true,
+        Answer::Object { fields, .. } => is_distinct(answers, ANSWER_WIDTH, ANSWER_NAME, fields),
+        _ => true,
     }
 }
 
@@ -67,15 +66,7 @@ pub fn answer_names_differ(answers: &[u32], row: u32) -> bool
 fn is_object(answer: Answer) -> bool
     ensures { result ≡ is_object answer }
 {
-    match answer {
-        Answer::Object { ty: _, fields: _ } => true,
-        Answer::Skip => false,
-        Answer::Error => false,
-        Answer::Leaf(_) => false,
-        Answer::List(_) => false,
-        Answer::Echo(_) => false,
-        Answer::Unknown => false,
-    }
+    matches!(answer, Answer::Object { .. })
 }
 
 pub fn root_answer_is_object(answers: &[u32]) -> bool

@@ -15,6 +15,9 @@ use rows::document::{
 };
 use rows::layout::{Range, cell, row_count};
 
+// The kind of a selection that is a field, which searches ask for before they read more of a row.
+pub const FIELD_KIND: u32 = 0;
+
 pub fn set_row(selections: u32, sets: &[u32], row: u32) -> bool
     ensures { result ≡ set_row selections sets.now row }
 {
@@ -116,16 +119,8 @@ fn given_of(given: &[u32], what: Selected) -> bool
     ensures { result ≡ given_of given.now what }
 {
     match what {
-        Selected::Field(field) => {
-            let its_given = field.given;
-            is_distinct(given, GIVEN_WIDTH, GIVEN_NAME, its_given)
-        }
-        Selected::Spread { name: _ } => true,
-        Selected::Inline {
-            condition: _,
-            set: _,
-        } => true,
-        Selected::Unknown => true,
+        Selected::Field(field) => is_distinct(given, GIVEN_WIDTH, GIVEN_NAME, field.given),
+        _ => true,
     }
 }
 
@@ -172,10 +167,7 @@ pub fn owned_set(selections: &[u32], row: usize) -> Option<u32>
 fn is_larger_than(set: u32, owned: Option<u32>) -> bool
     ensures { result ≡ larger_than set owned }
 {
-    match owned {
-        None => true,
-        Some(child) => set < child,
-    }
+    owned.is_none_or(|child| set < child)
 }
 
 pub fn child_is_larger(selections: &[u32], set: u32, row: usize) -> bool
@@ -190,12 +182,7 @@ fn children_are_larger(selections: &[u32], set: u32, rows: Range) -> bool
 {
     let first = rows.first as usize;
     let count = rows.count;
-    for i in 0..count {
-        if !child_is_larger(selections, set, first + (i as usize)) {
-            return false;
-        }
-    }
-    true
+    (0..count).all(|i| child_is_larger(selections, set, first + (i as usize)))
 }
 
 pub fn child_sets_are_larger(sets: &[u32], selections: &[u32], row: u32) -> bool
@@ -207,10 +194,7 @@ pub fn child_sets_are_larger(sets: &[u32], selections: &[u32], row: u32) -> bool
 fn is_other_set(set: u32, owned: Option<u32>) -> bool
     ensures { result ≡ owns_other set owned }
 {
-    match owned {
-        None => true,
-        Some(other) => set != other,
-    }
+    owned.is_none_or(|other| set != other)
 }
 
 fn owns_other(selections: &[u32], set: u32, row: u32) -> bool
@@ -223,21 +207,13 @@ fn owns_other(selections: &[u32], set: u32, row: u32) -> bool
 fn is_owned_nowhere(selections: &[u32], set: u32, n: u32) -> bool
     ensures { result ≡ owned_nowhere selections.now set n }
 {
-    for j in 0..n {
-        if !owns_other(selections, set, j) {
-            return false;
-        }
-    }
-    true
+    (0..n).all(|j| owns_other(selections, set, j))
 }
 
 fn is_alone(selections: &[u32], row: u32, owned: Option<u32>) -> bool
     ensures { result ≡ alone selections.now row owned }
 {
-    match owned {
-        None => true,
-        Some(set) => (set != 0) & is_owned_nowhere(selections, set, row),
-    }
+    owned.is_none_or(|set| (set != 0) & is_owned_nowhere(selections, set, row))
 }
 
 pub fn selection_owns_alone(selections: &[u32], row: u32) -> bool

@@ -32,25 +32,13 @@ fn is_new_key(pool: &[u8], nodes: &[u32], first: u32, i: u32) -> bool
 {
     let from = first as usize;
     let row = from + (i as usize);
-    for j in 0..i {
-        if !is_other_key(pool, nodes, row, from + (j as usize)) {
-            return false;
-        }
-    }
-    true
+    (0..i).all(|j| is_other_key(pool, nodes, row, from + (j as usize)))
 }
 
 fn keys_are_distinct(pool: &[u8], nodes: &[u32], rows: Range) -> bool
     ensures { result ≡ keys_distinct pool.now nodes.now rows }
 {
-    let first = rows.first;
-    let count = rows.count;
-    for i in 0..count {
-        if !is_new_key(pool, nodes, first, i) {
-            return false;
-        }
-    }
-    true
+    (0..rows.count).all(|i| is_new_key(pool, nodes, rows.first, i))
 }
 
 pub fn node_keys_differ(pool: &[u8], nodes: &[u32], row: u32) -> bool

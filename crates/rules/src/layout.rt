@@ -1,8 +1,9 @@
 // What the tables have in common: rows that are there, ranges of them, how many there are, and words that differ.
 ghost use Rattle.std.specs.Prelude.{◌≡◌, ◌+◌, ◌≤◌, ◌<◌, ◌^◌};
 ghost use Rattle.rules.specs.Rows.{within, later, counted, other, is_new, distinct};
-ghost use Rattle.rules.specs.Marks.{Met};
+ghost use Rattle.rules.specs.Marks.{Marked, unmet};
 
+use crate::marks::mark;
 use rows::layout::{Range, cell};
 
 pub(crate) fn is_within(count: u32, rows: Range) -> bool
@@ -43,12 +44,7 @@ pub(crate) fn is_new(t: &[u32], width: usize, column: usize, first: u32, i: u32)
 {
     let from = first as usize;
     let row = from + (i as usize);
-    for j in 0..i {
-        if !is_other(t, width, column, row, from + (j as usize)) {
-            return false;
-        }
-    }
-    true
+    (0..i).all(|j| is_other(t, width, column, row, from + (j as usize)))
 }
 
 // As `is_new`, where the words of the i rows before are marked; marks the row's own. The words that are asked about number names, and
@@ -59,21 +55,18 @@ fn is_new_by_marks(
     column: usize,
     first: u32,
     i: u32,
-    marks: &mut [u8],
+    marks: &mut [bool],
 ) -> bool
     requires width_bound { (width ≤ 16) × (column < 16) }
-    requires met { Met t.now width column first i marks.old }
+    requires met { Marked 512 (unmet t.now width column first i) marks.old }
     ensures value { result ≡ is_new t.now width column first i }
-    ensures met_2 { Met t.now width column first (i + 1) marks.new }
+    ensures met_2 { Marked 512 (unmet t.now width column first (i + 1)) marks.new }
 {
     let word = cell(t, width, (first as usize) + (i as usize), column);
-    if word < 512 {
-        let at = word as usize;
-        let mark = marks[at];
-        marks[at] = 1;
-        return mark == 0;
+    match mark(marks, word) {
+        Some(free) => free,
+        None => is_new(t, width, column, first, i),
     }
-    is_new(t, width, column, first, i)
 }
 
 // No two rows of the range have the same word in the column.
@@ -83,7 +76,7 @@ pub fn is_distinct(t: &[u32], width: usize, column: usize, rows: Range) -> bool
 {
     let first = rows.first;
     let count = rows.count;
-    let mut marks = [0u8; 512];
+    let mut marks = [false; 512];
     for i in 0..count {
         if !is_new_by_marks(t, width, column, first, i, &mut marks) {
             return false;

@@ -8,6 +8,7 @@ pub mod document;
 pub mod json;
 pub mod keys;
 pub mod layout;
+pub mod marks;
 pub mod names;
 pub mod schema;
 pub mod strings;

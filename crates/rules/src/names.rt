@@ -16,8 +16,9 @@ pub fn name_is_spelled(pool: &[u8], names: &[u32], row: u32) -> bool
     is_in_pool(pool, name) & (sized & text::names::is_name(text_of(pool, name)))
 }
 
-fn is_reserved_for_types(row: u32, name: &[u8]) -> bool
-    requires { row < 6 }
+// Whether these bytes may stand at this row: of the first twelve each has its own.
+#[tactic(auto, using(crate::proofs::Reserved::past_reserved), unfolding(rows::specs::Ascii::ascii))]
+fn is_reserved_as(row: u32, name: &[u8]) -> bool
     ensures { result ≡ reserved_as row name.now }
 {
     match row {
@@ -26,35 +27,15 @@ fn is_reserved_for_types(row: u32, name: &[u8]) -> bool
         2 => is_same(name, b"Float"),
         3 => is_same(name, b"String"),
         4 => is_same(name, b"Boolean"),
-        _ => is_same(name, b"ID"),
-    }
-}
-
-fn is_reserved_for_introspection(row: u32, name: &[u8]) -> bool
-    requires { (6 ≤ row) × (row < 12) }
-    ensures { result ≡ reserved_as row name.now }
-{
-    match row {
+        5 => is_same(name, b"ID"),
         6 => is_same(name, b"__schema"),
         7 => is_same(name, b"__type"),
         8 => is_same(name, b"fields"),
         9 => is_same(name, b"interfaces"),
         10 => is_same(name, b"possibleTypes"),
-        _ => is_same(name, b"inputFields"),
+        11 => is_same(name, b"inputFields"),
+        _ => true,
     }
-}
-
-// Whether these bytes may stand at this row: of the first twelve each has its own.
-fn is_reserved_as(row: u32, name: &[u8]) -> bool
-    ensures { result ≡ reserved_as row name.now }
-{
-    if row < 6 {
-        return is_reserved_for_types(row, name);
-    }
-    if row < 12 {
-        return is_reserved_for_introspection(row, name);
-    }
-    true
 }
 
 pub fn name_is_reserved(pool: &[u8], names: &[u32], row: u32) -> bool
@@ -72,10 +53,5 @@ fn is_other_name(pool: &[u8], names: &[u32], one: u32, two: u32) -> bool
 pub fn name_is_new(pool: &[u8], names: &[u32], row: u32) -> bool
     ensures { result ≡ name_new pool.now names.now row }
 {
-    for j in 0..row {
-        if !is_other_name(pool, names, row, j) {
-            return false;
-        }
-    }
-    true
+    (0..row).all(|j| is_other_name(pool, names, row, j))
 }

@@ -59,10 +59,8 @@ fn parts_are_lawful(kind: TypeKind, fields: u32, members: u32) -> bool
 {
     match kind {
         TypeKind::Scalar => (fields == 0) & (members == 0),
-        TypeKind::Enum => fields == 0,
-        TypeKind::Union => fields == 0,
-        TypeKind::Object => true,
-        TypeKind::Interface => true,
+        TypeKind::Enum | TypeKind::Union => fields == 0,
+        TypeKind::Object | TypeKind::Interface => true,
         TypeKind::InputObject => members == 0,
         TypeKind::Unknown => false,
     }
@@ -171,15 +169,7 @@ pub fn arguments_differ(fields: &[u32], arguments: &[u32], row: u32) -> bool
 fn is_object_kind(kind: TypeKind) -> bool
     ensures { result ≡ object_kind kind }
 {
-    match kind {
-        TypeKind::Object => true,
-        TypeKind::Scalar => false,
-        TypeKind::Enum => false,
-        TypeKind::Interface => false,
-        TypeKind::Union => false,
-        TypeKind::InputObject => false,
-        TypeKind::Unknown => false,
-    }
+    matches!(kind, TypeKind::Object)
 }
 
 pub fn root_is_object(types: &[u32], root: u32) -> bool

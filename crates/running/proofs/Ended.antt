@@ -11,6 +11,7 @@ use borrow.Enum.Refused.{Among, opened}
 use denote.Enum.Declared.{tag_of}
 use Rattle.writing.specs.Wrote.{Wrote, Writes, zeroed_from}
 use Rattle.tokens.specs.Literal.{null_name}
+use Rattle.codes.specs.declared.outcome.Outcome.{Outcome}
 use Rattle.codes.specs.declared.outcome.Outcome.TheVariants.{Answered, TextTooLong, RecordsTooLong}
 use Rattle.codes.specs.declared.report.Reported.{Reported}
 use Rattle.codes.specs.Outcome.{code_of}
@@ -20,18 +21,19 @@ use Rattle.graphql.specs.Report.{records_of, words_of, answered_with, ended, ref
 use Rattle.walking.specs.declared.state.Kind.{Kind}
 use Rattle.walking.specs.declared.state.Failure.{Failure}
 use Rattle.walking.specs.declared.state.Failure.TheVariants.{Stop}
-use Rattle.walking.specs.declared.state.Completed.TheVariants.{Placed, Fails}
+use Rattle.std.specs.Prelude.{Ok, Err}
 use Rattle.walking.specs.declared.state.Done.{Done}
-use Rattle.walking.specs.Gives.{as_data, answer_of}
+use Rattle.walking.specs.Gives.{Completed, as_data, AnswerOf}
 use Rattle.walking.proofs.Ends.{placed_of}
 use Rattle.walking.specs.contracts.state.Failure.{the_type as failures}
 use Rattle.running.specs.Reporting.{Counts, ReportsWritten, ReportsEnd}
 
 -- All is zero.
-pub refuse_reports : (text errors : List ℕ) {text' errors' : List ℕ} {code : ℕ} → text' ≡ zeroed_from 0 text → errors' ≡ zeroed_from 0 errors
-    → Reports (length text) (length errors) (refused code) (record { code = code; bytes = 0; words = 0; records = 0 }) text' errors'
+pub refuse_reports : (text errors : List ℕ) {text' errors' : List ℕ} (o : Outcome) {code : ℕ} → text' ≡ zeroed_from 0 text → errors' ≡ zeroed_from 0 errors
+    → code ≡ code_of o
+    → Reports (length text) (length errors) (refused (code_of o)) (record { code = code; bytes = 0; words = 0; records = 0 }) text' errors'
 unfolding refused filled
-refuse_reports text errors e f = record { code = refl; bytes = refl; words = refl; records = refl; text_is = e; errors_are = f }
+refuse_reports text errors o e f c = record { code = c; bytes = refl; words = refl; records = refl; text_is = e; errors_are = f }
 
 -- ---- What was written, against its buffer
 
@@ -74,20 +76,20 @@ module _ (t e : ℕ) (d : Data) (log : Log) where
   unfolding fitted
   fitted_both h k = rw (le-leb (length (print_data d)) t h, le-leb (length (words_of (records_of log))) e k)
 
-module _ {text errors text' errors' : List ℕ} {at errs : ℕ} {r : Reported} {code : ℕ} where
-  pub report_text_too_long : code ≡ code_of TextTooLong → length text < at → Reports (length text) (length errors) (refused code) r text' errors'
+module _ {text errors text' errors' : List ℕ} {at errs : ℕ} {r : Reported} where
+  pub report_text_too_long : length text < at → Reports (length text) (length errors) (refused (code_of TextTooLong)) r text' errors'
       → ReportsWritten text errors at errs r text' errors'
-  report_text_too_long c h k = record {
+  report_text_too_long h k = record {
     reports = λ before noted d log w v.
-        rw (fitted_not (length before) (length noted) d log (overran w h), ← c, ← w.long, ← v.long) k;
+        rw (fitted_not (length before) (length noted) d log (overran w h), ← w.long, ← v.long) k;
   }
 
-  pub report_records_too_long : code ≡ code_of RecordsTooLong → at ≤ length text → length errors < errs
-      → Reports (length text) (length errors) (refused code) r text' errors' → ReportsWritten text errors at errs r text' errors'
-  report_records_too_long c h l k = record {
+  pub report_records_too_long : at ≤ length text → length errors < errs
+      → Reports (length text) (length errors) (refused (code_of RecordsTooLong)) r text' errors' → ReportsWritten text errors at errs r text' errors'
+  report_records_too_long h l k = record {
     reports = λ before noted d log w v.
         let fits : length (print_data d) ≤ length before = omega (arith, reached w h, w.long) in
-        rw (fitted_text (length before) (length noted) d log fits (overran v l), ← c, ← w.long, ← v.long) k;
+        rw (fitted_text (length before) (length noted) d log fits (overran v l), ← w.long, ← v.long) k;
   }
 
 -- Both fit.
@@ -120,48 +122,48 @@ rewritten {before} {text} l w = record {
   shown = λ h. w.wrote.shown (omega arith);
 }
 
-stop_of : (x : Res Data) {code : ℕ} → Fails (Stop code) ≡ answer_of as_data x → (log : Log) × (x ≡ stop code log)
-stop_of (stop n w) e = (w, ap (λ (c : ℕ). stop c w) (cc))
-stop_of (failed here w c) e = absurd (let z : ◌≡◌ {A = ℕ} 0 1 = cc in omega arith)
-stop_of (failed past_list w c) e = absurd (let z : ◌≡◌ {A = ℕ} 0 1 = cc in omega arith)
-stop_of (done v w c) e = absurd (let z : ◌≡◌ {A = ℕ} 0 1 = cc in omega arith)
+stop_of : (x : Res Data) {a : Completed} {o : Outcome} → a ≡ Err (Stop o) → AnswerOf as_data x a → (log : Log) × (x ≡ stop (code_of o) log)
+stop_of (stop n w) {o = o} e h = let i = h.is in let z : h.outcome ≡ o = cc in (w, ap (λ (c : ℕ). stop c w) (sym h.numbered ∙ ap code_of z))
+stop_of (failed here w c) e h = absurd (let z : ◌≡◌ {A = ℕ} 0 1 = cc in omega arith)
+stop_of (failed past_list w c) e h = absurd (let z : ◌≡◌ {A = ℕ} 0 1 = cc in omega arith)
+stop_of (done v w c) e h = absurd (let z : ◌≡◌ {A = ℕ} 0 1 = cc in omega arith)
 
-failed_of : (x : Res Data) {f : Failure} → Among (0 ∷ 1 ∷ []) (tag_of failures f) → Fails f ≡ answer_of as_data x
+failed_of : (x : Res Data) {a : Completed} {f : Failure} → Among (0 ∷ 1 ∷ []) (tag_of failures f) → a ≡ Err f → AnswerOf as_data x a
     → (r : Reach) × (log : Log) × (c : Choices) × (x ≡ failed r log c)
-failed_of (stop n w) {f} k e = absurd (not_stop (cc))
+failed_of (stop n w) {f = f} k e h = let i = h.is in absurd (not_stop h.outcome (cc))
   where
-    not_stop : f ≡ Stop n → ⊥
-    not_stop z = ⊎_elim (λ h. omega arith) (λ h. omega arith) (opened (rw z at k))
-failed_of (failed r w c) k e = (r, w, c, refl)
-failed_of (done v w c) k e = absurd (let z : ◌≡◌ {A = ℕ} 0 1 = cc in omega arith)
+    not_stop : (o : Outcome) → f ≡ Stop o → ⊥
+    not_stop o z = ⊎_elim (λ h. omega arith) (λ h. omega arith) (opened (rw z at k))
+failed_of (failed r w c) k e h = (r, w, c, refl)
+failed_of (done v w c) k e h = absurd (let z : ◌≡◌ {A = ℕ} 0 1 = cc in omega arith)
 
 module _ {text errors text' errors' : List ℕ} {d : Done} {r : Reported} where
-  pub end_placed : {k : Kind} → d.what ≡ Placed k → ReportsWritten text errors d.state.at d.state.errs r text' errors'
+  pub end_placed : {k : Kind} → d.what ≡ Ok k → ReportsWritten text errors d.state.at d.state.errs r text' errors'
       → ReportsEnd text errors d r text' errors'
   unfolding ended
   end_placed e k = record {
     reports = λ cs before noted s x z y g.
-        let p = placed_of as_data x (sym e ∙ g.what) in
+        let p = placed_of as_data x e g.what in
         let h = rw p.3 at g in
         rw p.3 (k.reports before noted p.0 p.1 (rw z at h.wrote) (rw y at h.noted));
   }
 
-  pub end_stopped : {f : Failure} {code : ℕ} → d.what ≡ Fails f → f ≡ Stop code
-      → Reports (length text) (length errors) (refused code) r text' errors' → ReportsEnd text errors d r text' errors'
+  pub end_stopped : {f : Failure} {o : Outcome} → d.what ≡ Err f → f ≡ Stop o
+      → Reports (length text) (length errors) (refused (code_of o)) r text' errors' → ReportsEnd text errors d r text' errors'
   unfolding ended fitted
   end_stopped e q k = record {
     reports = λ cs before noted s x z y g.
-        let p = stop_of x (sym (e ∙ ap Fails q) ∙ g.what) in
+        let p = stop_of x (e ∙ ap Err q) g.what in
         let h = rw p.1 at g in
         rw (p.1, ← h.wrote, ← h.noted.long) k;
   }
 
-  pub end_failed : {f : Failure} {text1 : List ℕ} {at : ℕ} → d.what ≡ Fails f → Among (0 ∷ 1 ∷ []) (tag_of failures f)
+  pub end_failed : {f : Failure} {text1 : List ℕ} {at : ℕ} → d.what ≡ Err f → Among (0 ∷ 1 ∷ []) (tag_of failures f)
       → Writes text text1 0 at null_name → ReportsWritten text1 errors at d.state.errs r text' errors' → ReportsEnd text errors d r text' errors'
   unfolding ended print_data
   end_failed e o w k = record {
     reports = λ cs before noted s x z y g.
-        let p = failed_of x o (sym e ∙ g.what) in
+        let p = failed_of x o e g.what in
         let h = rw p.3 at g in
         rw p.3 (k.reports before noted nulled p.1 (rewritten h.wrote.long w) (rw y at h.noted));
   }

@@ -23,26 +23,25 @@ use Rattle.rules.specs.Schema.{object_kind}
 use Rattle.tables.specs.Tables.{Tables}
 use Rattle.tables.specs.Lawful.{lawful}
 use Rattle.tables.proofs.Facts.{root_is_object}
-use Rattle.codes.specs.Outcome.{too_far, too_many_fields}
 use Rattle.graphql.specs.Run.{Choices, stop, halt, onward, ◌>>=◌}
 use Rattle.graphql.specs.Request.{Request}
 use Rattle.graphql.specs.Complete.{rows_of_object, execute_selection_set, execute}
 use Rattle.planning.specs.Plans.{Storable, Made, Stopped, PlansAlone, operation_of}
 use Rattle.planning.specs.Plans as plans
-use Rattle.planning.specs.declared.plan.Planned.{Planned}
-use Rattle.planning.specs.declared.plan.Planned.TheVariants as planned
-use Rattle.planning.specs.contracts.plan.Planned.{the_type as plannings}
+use Rattle.std.specs.Prelude.{Result, Ok}
+use Rattle.codes.specs.Outcome.{code_of}
+use Rattle.codes.specs.declared.outcome.Outcome.{Outcome}
+use Rattle.planning.specs.declared.plan.Plan.{Plan}
 use Rattle.walking.specs.declared.path.Path.{Path}
 use Rattle.walking.specs.declared.state.Failure.TheVariants.{Stop}
-use Rattle.walking.specs.declared.state.Completed.TheVariants.{Fails}
+use Rattle.std.specs.Prelude.{Err}
 use Rattle.walking.specs.declared.state.Done.{Done}
 use Rattle.walking.specs.Paths.{path_of}
 use Rattle.walking.specs.Gives.{as_data, Gives}
 use Rattle.walking.proofs.Ended.{stopped_gives}
 use Rattle.resolving.specs.Sound.{asking, Leads}
-use Rattle.execution.specs.Ends.{stop_code}
 use Rattle.execution.specs.Walk.{SetReady, SetDone}
-use Rattle.running.specs.Running.{at_start, stopped_by}
+use Rattle.running.specs.Running.{at_start}
 use Rattle.running.proofs.Root.{execute_root}
 use Rattle.running.proofs.Sound.{sound_of}
 
@@ -77,11 +76,6 @@ rows_led (answer.Object n rows) l = l
 rows_led (answer.Echo n) l = omega arith
 rows_led answer.Unknown l = omega arith
 
--- ---- Why the operation's set cannot be collected
-
-pub stopped_so : {d : Done} {code : ℕ} (r : Planned) → code ≡ stop_code r → d ≡ record { what = Fails (Stop code); state = at_start } → d ≡ stopped_by r
-stopped_so r e f = rw e at f
-
 -- ---- Lawful tables
 
 module _ (T : Tables) where
@@ -89,7 +83,7 @@ module _ (T : Tables) where
   P = asking T.pool T.names T.refs T.types T.members T.fields T.arguments T.sets T.selections T.given T.fragments
       T.nodes T.literals T.variables T.answers
 
-  abbrev PlansOperation : (store : List ℕ) → Planned → (store' : List ℕ) → Type 0
+  abbrev PlansOperation : (store : List ℕ) → Result Plan Outcome → (store' : List ℕ) → Type 0
   PlansOperation store r store' =
       PlansAlone T.refs T.types T.members T.fields T.sets T.selections T.fragments T.nodes T.variables operation_of T.root
       store r store'
@@ -114,14 +108,11 @@ module _ (T : Tables) where
   unfolding execute execute_selection_set ◌>>=◌ onward
   stops cs s = rw (s.stops cs)
 
-  pub stopped_before : (cs text errors : List ℕ) (r : Planned) {store store' : List ℕ} {d : Done} → Among (1 ∷ 2 ∷ 3 ∷ []) (tag_of plannings r)
-      → PlansOperation store r store' → d ≡ stopped_by r → Gives as_data cs text errors at_start (execute (record { tables = T }) cs) d text errors
+  pub stopped_before : (cs text errors : List ℕ) {r : Result Plan Outcome} {o : Outcome} {store store' : List ℕ} {d : Done} → r ≡ Err o
+      → PlansOperation store r store' → d ≡ record { what = Err (Stop o); state = at_start }
+      → Gives as_data cs text errors at_start (execute (record { tables = T }) cs) d text errors
   unfolding halt
-  stopped_before cs text errors (planned.At plan top) o p e =
-      absurd (⊎_elim (λ h. omega arith) (λ u. ⊎_elim (λ h. omega arith) (λ h. omega arith) u) (opened o))
-  stopped_before cs text errors planned.NoRoom o p e = absurd (p.roomy refl)
-  stopped_before cs text errors planned.TooFar o p e = rw (e, stops cs (p.comes P itself)) (stopped_gives too_far)
-  stopped_before cs text errors planned.TooManyFields o p e = rw (e, stops cs (p.comes P itself)) (stopped_gives too_many_fields)
+  stopped_before cs text errors {o = o} q p e = rw (e, stops cs (rw q at (p.comes P itself))) (stopped_gives o)
 
   -- ---- a plan: its groups
 
@@ -136,13 +127,13 @@ module _ (T : Tables) where
       small = omega (arith, length-replicate {A = ℕ} 8192 0);
     }
 
-    module _ {r : Planned} {store' : List ℕ} {plan top : ℕ} (p : PlansOperation (replicate 8192 0) r store') (q : r ≡ planned.At plan top) where
-      made : Made P (operation_of P) (replicate 8192 0) 0 T.root plan top store'
+    module _ {r : Result Plan Outcome} {store' : List ℕ} {own : Plan} (p : PlansOperation (replicate 8192 0) r store') (q : r ≡ Ok own) where
+      made : Made P (operation_of P) (replicate 8192 0) 0 T.root own.plan own.top store'
       made = rw q at (p.comes P itself)
 
       -- what the groups rest on
       pub operation_ready : {path : Path} {rows : Range} → path.count ≡ 0 → rows ≡ rows_of_object (answer_at T.answers 0)
-          → SetReady P store' (replicate 4224 0) (replicate 1024 0) path (record { at = 0; errs = 0; choice = 0; top = top }) plan T.root rows
+          → SetReady P store' (replicate 4224 0) (replicate 1024 0) path (record { at = 0; errs = 0; choice = 0; top = own.top }) own.plan T.root rows
       operation_ready c e = record {
         ready = record {
           sound = sound_of T h;
@@ -159,7 +150,7 @@ module _ (T : Tables) where
       pub operation_executed : {cs text errors spans hints text' errors' plans' spans' hints' : List ℕ} {path : Path} {rows : Range} {d : Done}
           → path_of path ≡ [] → path.count ≡ 0
           → rows ≡ rows_of_object (answer_at T.answers 0)
-          → SetDone P cs text errors store' spans hints path (record { at = 0; errs = 0; choice = 0; top = top }) plan T.root rows d text' errors' plans' spans'
+          → SetDone P cs text errors store' spans hints path (record { at = 0; errs = 0; choice = 0; top = own.top }) own.plan T.root rows d text' errors' plans' spans'
           hints'
           → Gives as_data cs text errors at_start (execute (record { tables = T }) cs) d text' errors'
       operation_executed {cs} pe ce re x =

@@ -1,5 +1,5 @@
 -- "1 before 2 before the walk": what a run reports, by the code that was found before it. Assumes nothing.
-use mathlib.Core.Path.{◌≡◌, refl, ◌∙◌}
+use mathlib.Core.Path.{◌≡◌, refl, sym, ◌∙◌}
 use mathlib.Core.Bool.{Bool, true, false, not, cond, ◌&&◌}
 use mathlib.Core.List.{List}
 use Prim.Native.Nat.{ℕ, ◌≤◌}
@@ -11,7 +11,9 @@ use Rattle.rows.specs.Limits.{most_text_bytes, most_error_words}
 use Rattle.rows.proofs.Every.{and_left, and_right}
 use Rattle.tables.specs.Tables.{Tables}
 use Rattle.tables.specs.Lawful.{lawful, table_code, lawful_buffers, lawful_choices}
-use Rattle.codes.specs.declared.outcome.Outcome.TheVariants.{Answered, Unlawful, AsksForSchema}
+use Rattle.std.specs.Prelude.{Option, Some, None}
+use Rattle.codes.specs.declared.outcome.Outcome.{Outcome}
+use Rattle.codes.specs.declared.outcome.Outcome.TheVariants.{Unlawful, AsksForSchema}
 use Rattle.codes.specs.declared.report.Reported.{Reported}
 use Rattle.codes.specs.Outcome.{code_of}
 use Rattle.graphql.specs.Run.{Choices, Res, stop, failed, done}
@@ -43,25 +45,25 @@ module _ (T : Tables) {code : ℕ} (e : code ≡ table_code T) where
       go true h = refl
       go false h = absurd (omega arith)
 
-  module _ (choices text errors : ℕ) {r : ℕ} where
-    pub refusal_tables : (code ≡ 0 → ⊥) → r ≡ code_of Unlawful → r ≡ refusal_of T choices text errors
+  module _ (choices text errors : ℕ) where
+    pub refusal_tables : (code ≡ 0 → ⊥) → Some Unlawful ≡ refusal_of T choices text errors
     unfolding refusal_of
-    refusal_tables z u = rw (broken z) u
+    refusal_tables z = rw (broken z)
 
     module _ (z : code ≡ 0) {b c : Bool} (be : b ≡ lawful_buffers text errors) (ce : c ≡ lawful_choices choices) where
-      pub refusal_sizes : not (b && c) ≡ true → r ≡ code_of Unlawful → r ≡ refusal_of T choices text errors
+      pub refusal_sizes : not (b && c) ≡ true → Some Unlawful ≡ refusal_of T choices text errors
       unfolding refusal_of
-      refusal_sizes t u = rw (sound z, ← be, ← ce, not-true (b && c) t) u
+      refusal_sizes t = rw (sound z, ← be, ← ce, not-true (b && c) t)
 
-      pub refusal_schema : not (b && c) ≡ false → {i : Bool} → i ≡ introspects T.selections → i ≡ true → r ≡ code_of AsksForSchema
-          → r ≡ refusal_of T choices text errors
+      pub refusal_schema : not (b && c) ≡ false → {i : Bool} → i ≡ introspects T.selections → i ≡ true
+          → Some AsksForSchema ≡ refusal_of T choices text errors
       unfolding refusal_of
-      refusal_schema t ie it u = rw (sound z, ← be, ← ce, not-false (b && c) t, ← ie, it) u
+      refusal_schema t ie it = rw (sound z, ← be, ← ce, not-false (b && c) t, ← ie, it)
 
-      pub refusal_none : not (b && c) ≡ false → {i : Bool} → i ≡ introspects T.selections → i ≡ false → r ≡ code_of Answered
-          → r ≡ refusal_of T choices text errors
+      pub refusal_none : not (b && c) ≡ false → {i : Bool} → i ≡ introspects T.selections → i ≡ false
+          → None ≡ refusal_of T choices text errors
       unfolding refusal_of
-      refusal_none t ie it u = rw (sound z, ← be, ← ce, not-false (b && c) t, ← ie, it) u
+      refusal_none t ie it = rw (sound z, ← be, ← ce, not-false (b && c) t, ← ie, it)
 
 -- ---- What it says of the report
 
@@ -75,26 +77,26 @@ as_one true false false d w = refl
 as_one false b true d w = refl
 as_one false b false d w = refl
 
-refused_by : (p d : Bool) {code : ℕ} (w : Report) → code ≡ cond p (cond d 2 0) 1 → (code ≡ 0 → ⊥)
-    → cond p (cond d (refused 2) w) (refused 1) ≡ refused code
-refused_by true true w e z = rw e
-refused_by true false w e z = absurd (z e)
-refused_by false d w e z = rw e
+refused_by : (p d : Bool) {o : Outcome} (w : Report) → Some o ≡ cond p (cond d (Some AsksForSchema) None) (Some Unlawful)
+    → cond p (cond d (refused 2) w) (refused 1) ≡ refused (code_of o)
+refused_by true true {o} w e = let z : o ≡ AsksForSchema = cc in rw z
+refused_by true false w e = absurd (let z : ◌≡◌ {A = ℕ} 0 1 = cc in omega arith)
+refused_by false d {o} w e = let z : o ≡ Unlawful = cc in rw z
 
-walked_by : (p d : Bool) {code : ℕ} (w : Report) → code ≡ cond p (cond d 2 0) 1 → code ≡ 0 → cond p (cond d (refused 2) w) (refused 1) ≡ w
-walked_by true true w e z = absurd (omega arith)
-walked_by true false w e z = refl
-walked_by false d w e z = absurd (omega arith)
+walked_by : (p d : Bool) (w : Report) → None ≡ cond p (cond d (Some AsksForSchema) None) (Some Unlawful) → cond p (cond d (refused 2) w) (refused 1) ≡ w
+walked_by true true w e = absurd (let z : ◌≡◌ {A = ℕ} 0 1 = cc in omega arith)
+walked_by true false w e = refl
+walked_by false d w e = absurd (let z : ◌≡◌ {A = ℕ} 0 1 = cc in omega arith)
 
-all_hold : (p d : Bool) {code : ℕ} → code ≡ cond p (cond d 2 0) 1 → code ≡ 0 → p ≡ true
-all_hold true d e z = refl
-all_hold false d e z = absurd (omega arith)
+all_hold : (p d : Bool) → None ≡ cond p (cond d (Some AsksForSchema) None) (Some Unlawful) → p ≡ true
+all_hold true d e = refl
+all_hold false d e = absurd (let z : ◌≡◌ {A = ℕ} 0 1 = cc in omega arith)
 
--- Code 0: everything is lawful.
-module _ (T : Tables) (n t e : ℕ) {code : ℕ} (r : code ≡ refusal_of T n t e) (z : code ≡ 0) where
+-- None: everything is lawful.
+module _ (T : Tables) (n t e : ℕ) {o : Option Outcome} (r : o ≡ refusal_of T n t e) (z : o ≡ None) where
   all_lawful : (lawful T && (lawful_buffers t e && lawful_choices n)) ≡ true
   unfolding refusal_of
-  all_lawful = all_hold (lawful T && (lawful_buffers t e && lawful_choices n)) (introspects T.selections) r z
+  all_lawful = all_hold (lawful T && (lawful_buffers t e && lawful_choices n)) (introspects T.selections) (sym z ∙ r)
 
   pub tables_lawful : lawful T ≡ true
   tables_lawful = and_left (lawful T) (lawful_buffers t e && lawful_choices n) all_lawful
@@ -110,7 +112,7 @@ module _ (T : Tables) (n t e : ℕ) {code : ℕ} (r : code ≡ refusal_of T n t 
   unfolding lawful_buffers
   errors_lawful = leb-true e most_error_words (and_right (leb t most_text_bytes) (leb e most_error_words) both_lawful)
 
-module _ (T : Tables) (choices : Choices) (t e : ℕ) {code : ℕ} (r : code ≡ refusal_of T (length choices) t e) where
+module _ (T : Tables) (choices : Choices) (t e : ℕ) {o : Option Outcome} (r : o ≡ refusal_of T (length choices) t e) where
   abbrev walked : Report
   walked = fitted t e (walk (record { tables = T }) choices)
 
@@ -120,17 +122,17 @@ module _ (T : Tables) (choices : Choices) (t e : ℕ) {code : ℕ} (r : code ≡
   reported_as = as_one (lawful T) (lawful_buffers t e) (lawful_choices (length choices)) (introspects T.selections) walked
 
   -- Refused.
-  pub report_refused : {handed : Reported} {text' errors' : List ℕ} → (code ≡ 0 → ⊥) → Reports t e (refused code) handed text' errors'
+  pub report_refused : {why : Outcome} {handed : Reported} {text' errors' : List ℕ} → o ≡ Some why → Reports t e (refused (code_of why)) handed text' errors'
       → Reports t e (report (record { tables = T }) t e choices) handed text' errors'
   unfolding refusal_of
   report_refused z h =
-      rw (reported_as, refused_by (lawful T && (lawful_buffers t e && lawful_choices (length choices))) (introspects T.selections) walked r z) h
+      rw (reported_as, refused_by (lawful T && (lawful_buffers t e && lawful_choices (length choices))) (introspects T.selections) walked (sym z ∙ r)) h
 
   -- Walked.
-  report_walked : code ≡ 0 → report (record { tables = T }) t e choices ≡ walked
+  report_walked : o ≡ None → report (record { tables = T }) t e choices ≡ walked
   unfolding refusal_of
   report_walked z =
-      reported_as ∙ walked_by (lawful T && (lawful_buffers t e && lawful_choices (length choices))) (introspects T.selections) walked r z
+      reported_as ∙ walked_by (lawful T && (lawful_buffers t e && lawful_choices (length choices))) (introspects T.selections) walked (sym z ∙ r)
 
 -- ---- A walk keeps the sizes of its buffers
 
@@ -140,7 +142,7 @@ text_long (stop code log) g = g.wrote
 text_long (failed r log c) g = g.wrote.long
 text_long (done a log c) g = g.wrote.long
 
-module _ (T : Tables) (choices text errors : List ℕ) {code : ℕ} (r : code ≡ refusal_of T (length choices) (length text) (length errors)) (z : code ≡ 0)
+module _ (T : Tables) (choices text errors : List ℕ) {o : Option Outcome} (r : o ≡ refusal_of T (length choices) (length text) (length errors)) (z : o ≡ None)
     {d : Done} {text' errors' : List ℕ} (g : Gives as_data choices text errors at_start (execute (record { tables = T }) choices) d text' errors') where
   pub sizes_kept : (length text' ≤ most_text_bytes) × (length errors' ≤ most_error_words)
   sizes_kept =

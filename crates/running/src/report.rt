@@ -1,23 +1,24 @@
 // What a run hands back: its counts, and two buffers with nothing else in them.
 ghost use Rattle.std.specs.Prelude.{◌≤◌, length};
 ghost use Rattle.rows.specs.Limits.{most_text_bytes, most_error_words};
+ghost use Rattle.codes.specs.Outcome.{code_of};
 ghost use Rattle.graphql.specs.Report.{refused, Reports};
 ghost use Rattle.running.specs.Reporting.{Counts, ReportsWritten, ReportsEnd};
 
 use codes::outcome::Outcome;
 use codes::report::Reported;
 use tokens::json::put_null;
-use walking::state::{Completed, Done, Failure};
+use walking::state::{Done, Failure};
 use writing::place::clear;
 
 // A code, and nothing but zeros.
-pub fn refuse(text: &mut [u8], errors: &mut [u32], code: u32) -> Reported
-    ensures { Reports (length text.old) (length errors.old) (refused code) result text.new errors.new }
+pub fn refuse(text: &mut [u8], errors: &mut [u32], outcome: Outcome) -> Reported
+    ensures { Reports (length text.old) (length errors.old) (refused (code_of outcome)) result text.new errors.new }
 {
     clear(text, 0);
     clear(errors, 0);
     Reported {
-        code: code,
+        code: outcome.code(),
         bytes: 0,
         words: 0,
         records: 0,
@@ -45,10 +46,10 @@ fn report(text: &mut [u8], errors: &mut [u32], at: usize, errs: usize) -> Report
     ensures { ReportsWritten text.old errors.old at errs result text.new errors.new }
 {
     if text.len() < at {
-        return refuse(text, errors, Outcome::TextTooLong.code());
+        return refuse(text, errors, Outcome::TextTooLong);
     }
     if errors.len() < errs {
-        return refuse(text, errors, Outcome::RecordsTooLong.code());
+        return refuse(text, errors, Outcome::RecordsTooLong);
     }
     clear(text, at);
     clear(errors, errs);
@@ -66,12 +67,14 @@ pub fn report_end(text: &mut [u8], errors: &mut [u32], d: Done) -> Reported
     ensures { ReportsEnd text.old errors.old d result text.new errors.new }
 {
     let state = d.state;
-    let what = d.what;
-    let Completed::Fails(failure) = what else {
-        return report(text, errors, state.at, state.errs);
+    let failure = match d.what {
+        Ok(_) => {
+            return report(text, errors, state.at, state.errs);
+        }
+        Err(failure) => failure,
     };
-    if let Failure::Stop(code) = failure {
-        return refuse(text, errors, code);
+    if let Failure::Stop(outcome) = failure {
+        return refuse(text, errors, outcome);
     }
     let at = put_null(text, 0);
     report(text, errors, at, state.errs)

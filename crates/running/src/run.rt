@@ -1,23 +1,24 @@
 // The two runs: in document order, and in a given order.
 ghost use Rattle.std.specs.Prelude.{◌≡◌, true, length};
-ghost use Rattle.tables.specs.Tables.{tables};
+ghost use Rattle.tables.specs.Tables.{lent};
 ghost use Rattle.tables.specs.Lawful.{lawful};
 ghost use Rattle.rows.specs.Answers.{answer_at};
 ghost use Rattle.graphql.specs.Complete.{rows_of_object, execute};
 ghost use Rattle.graphql.specs.Report.{report, report_in_order, Reports};
 ghost use Rattle.walking.specs.Gives.{as_data, Gives};
-ghost use Rattle.running.specs.Running.{refusal_of, at_start, stopped_by};
+ghost use Rattle.running.specs.Running.{refusal_of, at_start};
 
 use crate::introspect::introspects;
 use crate::report::{refuse, report_end};
 use codes::outcome::Outcome;
 use codes::report::Reported;
-use execution::ends::stop_code;
+use execution::ends::planned_to;
 use execution::execution::execute_selection_set;
 use planning::layout::STORE_WORDS;
-use planning::plan::{Planned, plan_operation};
+use planning::plan::plan_operation;
 use rows::answers::{Answer, answer_at};
 use rows::layout::Range;
+use rows::tables::Tables;
 use tables::check::{LAWFUL, buffers_are_lawful, choices_are_lawful, table_check};
 use walking::path::root_path;
 use walking::settle::stopped;
@@ -28,44 +29,20 @@ const SPAN_WORDS: usize = 4224;
 
 const HINTS: usize = 1024;
 
-// "1 before 2 before the walk": why a run is refused without a walk, or 0.
-fn refusal(
-    pool: &[u8],
-    names: &[u32],
-    type_refs: &[u32],
-    types: &[u32],
-    members: &[u32],
-    fields: &[u32],
-    arguments: &[u32],
-    sets: &[u32],
-    selections: &[u32],
-    given: &[u32],
-    fragments: &[u32],
-    nodes: &[u32],
-    literals: &[u32],
-    variables: &[u32],
-    answers: &[u32],
-    root: u32,
-    choices: usize,
-    text: usize,
-    errors: usize,
-) -> u32
-    ensures { result ≡ refusal_of (tables pool.now names.now type_refs.now types.now members.now fields.now arguments.now sets.now selections.now given.now fragments.now nodes.now literals.now variables.now answers.now root) choices text errors }
+// "1 before 2 before the walk": why a run is refused without a walk, if it is.
+fn refusal(tables: &Tables, choices: usize, text: usize, errors: usize) -> Option<Outcome>
+    ensures { result ≡ refusal_of (lent tables.now) choices text errors }
 {
-    let code = table_check(
-        pool, names, type_refs, types, members, fields, arguments, sets, selections, given,
-        fragments, nodes, literals, variables, answers, root,
-    );
-    if code != LAWFUL {
-        return Outcome::Unlawful.code();
+    if table_check(tables) != LAWFUL {
+        return Some(Outcome::Unlawful);
     }
     if !(buffers_are_lawful(text, errors) & choices_are_lawful(choices)) {
-        return Outcome::Unlawful.code();
+        return Some(Outcome::Unlawful);
     }
-    if introspects(selections) {
-        return Outcome::AsksForSchema.code();
+    if introspects(tables.selections) {
+        return Some(Outcome::AsksForSchema);
     }
-    Outcome::Answered.code()
+    None
 }
 
 // The rows that answer the fields of the root.
@@ -79,70 +56,30 @@ fn root_rows(answers: &[u32]) -> Range
     Range { first: 0, count: 0 }
 }
 
-// A walk that stops before its first field, and why.
-fn stopped_at_start(planned: Planned) -> Done
-    ensures { result ≡ stopped_by planned }
-{
-    let s = State {
-        at: 0,
-        errs: 0,
-        choice: 0,
-        top: 0,
-    };
-    stopped(s, stop_code(planned))
-}
+// How a run stands before its first field.
+const START: State = State {
+    at: 0,
+    errs: 0,
+    choice: 0,
+    top: 0,
+};
 
 // The walk of lawful tables, from nothing written.
-fn execute_operation(
-    pool: &[u8],
-    names: &[u32],
-    type_refs: &[u32],
-    types: &[u32],
-    members: &[u32],
-    fields: &[u32],
-    arguments: &[u32],
-    sets: &[u32],
-    selections: &[u32],
-    given: &[u32],
-    fragments: &[u32],
-    nodes: &[u32],
-    literals: &[u32],
-    variables: &[u32],
-    answers: &[u32],
-    root: u32,
-    choices: &[u32],
-    text: &mut [u8],
-    errors: &mut [u32],
-) -> Done
-    requires { lawful (tables pool.now names.now type_refs.now types.now members.now fields.now arguments.now sets.now selections.now given.now fragments.now nodes.now literals.now variables.now answers.now root) ≡ true }
-    ensures { Gives as_data choices.now text.old errors.old at_start (execute (record { tables = tables pool.now names.now type_refs.now types.now members.now fields.now arguments.now sets.now selections.now given.now fragments.now nodes.now literals.now variables.now answers.now root }) choices.now) result text.new errors.new }
+fn execute_operation(tables: &Tables, choices: &[u32], text: &mut [u8], errors: &mut [u32]) -> Done
+    requires { lawful (lent tables.now) ≡ true }
+    ensures { Gives as_data choices.now text.old errors.old at_start (execute (record { tables = lent tables.now }) choices.now) result text.new errors.new }
 {
     let mut plans = [0u16; STORE_WORDS];
     let mut spans = [0u64; SPAN_WORDS];
     let mut hints = [0u32; HINTS];
-    let planned = plan_operation(
-        type_refs, types, members, fields, sets, selections, fragments, nodes, variables,
-        &mut plans, root,
-    );
-    let Planned::At { plan, top } = planned else {
-        return stopped_at_start(planned);
+    let own = match plan_operation(tables, &mut plans, tables.root) {
+        Ok(own) => own,
+        Err(outcome) => {
+            return stopped(START, outcome);
+        }
     };
     execute_selection_set(
-        pool,
-        names,
-        type_refs,
-        types,
-        members,
-        fields,
-        arguments,
-        sets,
-        selections,
-        given,
-        fragments,
-        nodes,
-        literals,
-        variables,
-        answers,
+        tables,
         choices,
         text,
         errors,
@@ -150,115 +87,33 @@ fn execute_operation(
         &mut spans,
         &mut hints,
         root_path(),
-        plan,
-        root,
-        root_rows(answers),
-        State {
-            at: 0,
-            errs: 0,
-            choice: 0,
-            top: top,
-        },
+        own.plan,
+        tables.root,
+        root_rows(tables.answers),
+        planned_to(START, own.top),
     )
 }
 
 // A run in a given order: the choices say which group of a set comes next.
 pub fn run_ordered(
-    pool: &[u8],
-    names: &[u32],
-    type_refs: &[u32],
-    types: &[u32],
-    members: &[u32],
-    fields: &[u32],
-    arguments: &[u32],
-    sets: &[u32],
-    selections: &[u32],
-    given: &[u32],
-    fragments: &[u32],
-    nodes: &[u32],
-    literals: &[u32],
-    variables: &[u32],
-    answers: &[u32],
-    root: u32,
+    tables: &Tables,
     choices: &[u32],
     text: &mut [u8],
     errors: &mut [u32],
 ) -> Reported
-    ensures { Reports (length text.old) (length errors.old) (report (record { tables = tables pool.now names.now type_refs.now types.now members.now fields.now arguments.now sets.now selections.now given.now fragments.now nodes.now literals.now variables.now answers.now root }) (length text.old) (length errors.old) choices.now) result text.new errors.new }
+    ensures { Reports (length text.old) (length errors.old) (report (record { tables = lent tables.now }) (length text.old) (length errors.old) choices.now) result text.new errors.new }
 {
-    let code = refusal(
-        pool,
-        names,
-        type_refs,
-        types,
-        members,
-        fields,
-        arguments,
-        sets,
-        selections,
-        given,
-        fragments,
-        nodes,
-        literals,
-        variables,
-        answers,
-        root,
-        choices.len(),
-        text.len(),
-        errors.len(),
-    );
-    if code != 0 {
-        return refuse(text, errors, code);
+    let refused = refusal(tables, choices.len(), text.len(), errors.len());
+    if let Some(outcome) = refused {
+        return refuse(text, errors, outcome);
     }
-    let d = execute_operation(
-        pool, names, type_refs, types, members, fields, arguments, sets, selections, given,
-        fragments, nodes, literals, variables, answers, root, choices, text, errors,
-    );
+    let d = execute_operation(tables, choices, text, errors);
     report_end(text, errors, d)
 }
 
 // A run in document order: with no choices each set takes its groups as they stand.
-pub fn run(
-    pool: &[u8],
-    names: &[u32],
-    type_refs: &[u32],
-    types: &[u32],
-    members: &[u32],
-    fields: &[u32],
-    arguments: &[u32],
-    sets: &[u32],
-    selections: &[u32],
-    given: &[u32],
-    fragments: &[u32],
-    nodes: &[u32],
-    literals: &[u32],
-    variables: &[u32],
-    answers: &[u32],
-    root: u32,
-    text: &mut [u8],
-    errors: &mut [u32],
-) -> Reported
-    ensures { Reports (length text.old) (length errors.old) (report_in_order (record { tables = tables pool.now names.now type_refs.now types.now members.now fields.now arguments.now sets.now selections.now given.now fragments.now nodes.now literals.now variables.now answers.now root }) (length text.old) (length errors.old)) result text.new errors.new }
+pub fn run(tables: &Tables, text: &mut [u8], errors: &mut [u32]) -> Reported
+    ensures { Reports (length text.old) (length errors.old) (report_in_order (record { tables = lent tables.now }) (length text.old) (length errors.old)) result text.new errors.new }
 {
-    run_ordered(
-        pool,
-        names,
-        type_refs,
-        types,
-        members,
-        fields,
-        arguments,
-        sets,
-        selections,
-        given,
-        fragments,
-        nodes,
-        literals,
-        variables,
-        answers,
-        root,
-        &answers[0..0],
-        text,
-        errors,
-    )
+    run_ordered(tables, &tables.answers[0..0], text, errors)
 }

@@ -1,7 +1,8 @@
-// Why a text is no table file. `Fine` says that nothing is wrong.
-#[derive(Clone, Copy)]
+// Why a text is no table file.
+use crate::layout::Table;
+
+#[derive(Clone, Copy, PartialEq, Eq, Debug)]
 pub enum Fault {
-    Fine,
     NoTableYet,
     UnknownTable,
     AfterHeading,
@@ -16,6 +17,13 @@ pub enum Fault {
     TableFull,
     PoolFull,
     RootGivenTwice,
-    // The number of the table, and how many words the line has, which are no whole rows.
-    NoWholeRow(usize, usize),
+    // How many words the line has, which are no whole rows of the table.
+    NoWholeRow { table: Table, words: usize },
+}
+
+// A fault and where it is: at the token, or where one is missing.
+#[derive(Clone, Copy, PartialEq, Eq, Debug)]
+pub(crate) struct Misread {
+    pub at: usize,
+    pub fault: Fault,
 }

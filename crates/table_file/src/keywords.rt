@@ -1,125 +1,108 @@
-// The words that stand for numbers, and the headings of the tables. Each list is in the order of the
-// numbers, so that a word's place in it says what it stands for.
-ghost use Rattle.std.specs.Prelude.{◌≤◌};
+// The words that stand for numbers, and the headings of the tables.
+use crate::layout::Table;
 
-use crate::layout;
-use crate::scan::token_end;
-use rows::strings::is_same;
-
-#[derive(Clone, Copy)]
-pub enum Word {
-    Known(u32),
-    Unknown,
+// The table that a heading begins.
+pub(crate) fn heading(token: &[u8]) -> Option<Table> {
+    let table = match token {
+        b"[pool]" => Table::Pool,
+        b"[names]" => Table::Names,
+        b"[type_refs]" => Table::TypeRefs,
+        b"[types]" => Table::Types,
+        b"[members]" => Table::Members,
+        b"[fields]" => Table::Fields,
+        b"[arguments]" => Table::Arguments,
+        b"[sets]" => Table::Sets,
+        b"[selections]" => Table::Selections,
+        b"[given]" => Table::Given,
+        b"[fragments]" => Table::Fragments,
+        b"[nodes]" => Table::Nodes,
+        b"[literals]" => Table::Literals,
+        b"[variables]" => Table::Variables,
+        b"[answers]" => Table::Answers,
+        b"[root]" => Table::Root,
+        _ => return None,
+    };
+    Some(table)
 }
 
-// The place of a token among the words of a list, or how many there are where it is none of them.
-fn place(token: &[u8], list: &[u8]) -> usize {
-    let mut at = 0;
-    let mut count = 0;
-    while at < list.len() {
-        let end = token_end(list, at);
-        if is_same(token, &list[at..end]) {
-            return count;
-        }
-        count += 1;
-        at = end + 1;
-    }
-    count
-}
-
-// The table that a heading begins, or the number of tables where it begins none.
-pub(crate) fn heading(token: &[u8]) -> usize
-    ensures { result ≤ 16 }
-{
-    let n = place(
-        token,
-        b"[pool] [names] [type_refs] [types] [members] [fields] [arguments] [sets] [selections] [given] [fragments] [nodes] [literals] [variables] [answers] [root]",
-    );
-    if n < layout::TABLES {
-        n
-    } else {
-        layout::TABLES
+// Whether a type is a list, and whether it is non-null.
+fn type_ref_word(token: &[u8]) -> Option<u32> {
+    match token {
+        b"named" | b"nullable" => Some(0),
+        b"list" | b"non-null" => Some(1),
+        _ => None,
     }
 }
 
-fn type_ref_word(token: &[u8]) -> Word {
-    let n = place(token, b"named list nullable non-null");
-    if n < 4 {
-        Word::Known((n % 2) as u32)
-    } else {
-        Word::Unknown
-    }
-}
-
-fn type_word(token: &[u8]) -> Word {
-    let n = place(token, b"scalar enum object interface union input");
-    if n < 6 {
-        Word::Known(n as u32)
-    } else {
-        Word::Unknown
+fn type_word(token: &[u8]) -> Option<u32> {
+    match token {
+        b"scalar" => Some(0),
+        b"enum" => Some(1),
+        b"object" => Some(2),
+        b"interface" => Some(3),
+        b"union" => Some(4),
+        b"input" => Some(5),
+        _ => None,
     }
 }
 
 // A kind of selection, or a condition.
-fn selection_word(token: &[u8]) -> Word {
-    let kind = place(token, b"field spread inline");
-    if kind < 3 {
-        return Word::Known(kind as u32);
-    }
-    let condition = place(token, b"none false true");
-    if condition < 3 {
-        Word::Known(condition as u32)
-    } else {
-        Word::Unknown
+fn selection_word(token: &[u8]) -> Option<u32> {
+    match token {
+        b"field" => Some(0),
+        b"spread" | b"false" => Some(1),
+        b"inline" | b"true" => Some(2),
+        _ => None,
     }
 }
 
-fn node_word(token: &[u8]) -> Word {
-    let n = place(
-        token,
-        b"null false true integer negative float string array object",
-    );
-    if n < 9 {
-        return Word::Known(n as u32);
-    }
-    if is_same(token, b"list") {
-        Word::Known(7)
-    } else {
-        Word::Unknown
+fn node_word(token: &[u8]) -> Option<u32> {
+    match token {
+        b"null" => Some(0),
+        b"false" => Some(1),
+        b"true" => Some(2),
+        b"integer" => Some(3),
+        b"negative" => Some(4),
+        b"float" => Some(5),
+        b"string" => Some(6),
+        b"array" | b"list" => Some(7),
+        b"object" => Some(8),
+        _ => None,
     }
 }
 
-fn literal_word(token: &[u8]) -> Word {
-    if is_same(token, b"enum") {
-        return Word::Known(9);
+fn literal_word(token: &[u8]) -> Option<u32> {
+    match token {
+        b"enum" => Some(9),
+        b"variable" => Some(10),
+        _ => node_word(token),
     }
-    if is_same(token, b"variable") {
-        return Word::Known(10);
-    }
-    node_word(token)
 }
 
-fn answer_word(token: &[u8]) -> Word {
-    let n = place(token, b"skip error leaf list object echo");
-    if n < 6 {
-        Word::Known(n as u32)
-    } else {
-        Word::Unknown
+fn answer_word(token: &[u8]) -> Option<u32> {
+    match token {
+        b"skip" => Some(0),
+        b"error" => Some(1),
+        b"leaf" => Some(2),
+        b"list" => Some(3),
+        b"object" => Some(4),
+        b"echo" => Some(5),
+        _ => None,
     }
 }
 
 // What a word stands for in a row of this table. `none` and `-` are 0 everywhere.
-pub(crate) fn keyword(number: usize, token: &[u8]) -> Word {
-    if place(token, b"none -") < 2 {
-        return Word::Known(0);
+pub(crate) fn keyword(table: Table, token: &[u8]) -> Option<u32> {
+    if matches!(token, b"none" | b"-") {
+        return Some(0);
     }
-    match number {
-        layout::TYPE_REFS => type_ref_word(token),
-        layout::TYPES => type_word(token),
-        layout::SELECTIONS => selection_word(token),
-        layout::NODES => node_word(token),
-        layout::LITERALS => literal_word(token),
-        layout::ANSWERS => answer_word(token),
-        _ => Word::Unknown,
+    match table {
+        Table::TypeRefs => type_ref_word(token),
+        Table::Types => type_word(token),
+        Table::Selections => selection_word(token),
+        Table::Nodes => node_word(token),
+        Table::Literals => literal_word(token),
+        Table::Answers => answer_word(token),
+        _ => None,
     }
 }

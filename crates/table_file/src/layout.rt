@@ -2,7 +2,8 @@
 // but the pool has a region of the same size in one array of words, so that a table's first word
 // is found by a product. The region holds the largest table, 2,048 selections of ten words, with
 // sixteen rows to spare: what is one row too long for the table check can still be written.
-ghost use Rattle.std.specs.Prelude.{◌≡◌, ◌*◌, replicate};
+ghost use Rattle.std.specs.Prelude.{◌≡◌, ◌<◌, ◌*◌, replicate};
+ghost use Rattle.table_file.specs.Numbers.{number_of};
 ghost use Rattle.table_file.specs.Sizes.{width_of};
 
 use rows::answers::ANSWER_WIDTH;
@@ -11,39 +12,27 @@ use rows::json::{LITERAL_WIDTH, NODE_WIDTH, VARIABLE_WIDTH};
 use rows::names::NAME_WIDTH;
 use rows::schema::{ARGUMENT_WIDTH, FIELD_WIDTH, MEMBER_WIDTH, TYPE_REF_WIDTH, TYPE_WIDTH};
 
-pub const POOL: usize = 0;
+#[derive(Clone, Copy, PartialEq, Eq, Debug)]
+pub enum Table {
+    Pool,
+    Names,
+    TypeRefs,
+    Types,
+    Members,
+    Fields,
+    Arguments,
+    Sets,
+    Selections,
+    Given,
+    Fragments,
+    Nodes,
+    Literals,
+    Variables,
+    Answers,
+    Root,
+}
 
-pub const NAMES: usize = 1;
-
-pub const TYPE_REFS: usize = 2;
-
-pub const TYPES: usize = 3;
-
-pub const MEMBERS: usize = 4;
-
-pub const FIELDS: usize = 5;
-
-pub const ARGUMENTS: usize = 6;
-
-pub const SETS: usize = 7;
-
-pub const SELECTIONS: usize = 8;
-
-pub const GIVEN: usize = 9;
-
-pub const FRAGMENTS: usize = 10;
-
-pub const NODES: usize = 11;
-
-pub const LITERALS: usize = 12;
-
-pub const VARIABLES: usize = 13;
-
-pub const ANSWERS: usize = 14;
-
-pub const ROOT: usize = 15;
-
-// How many there are; as a table's number it stands for none.
+// How many there are.
 pub const TABLES: usize = 16;
 
 pub const REGION: usize = 20640;
@@ -59,6 +48,26 @@ pub type Words = [u32; WORDS];
 // How many words there are of each table, and at 0 how many bytes the pool has.
 pub type Sizes = [usize; TABLES];
 
+// How many words a row of each table has. The pool has no rows.
+const WIDTHS: [usize; TABLES] = [
+    0,
+    NAME_WIDTH,
+    TYPE_REF_WIDTH,
+    TYPE_WIDTH,
+    MEMBER_WIDTH,
+    FIELD_WIDTH,
+    ARGUMENT_WIDTH,
+    SET_WIDTH,
+    SELECTION_WIDTH,
+    GIVEN_WIDTH,
+    FRAGMENT_WIDTH,
+    NODE_WIDTH,
+    LITERAL_WIDTH,
+    VARIABLE_WIDTH,
+    ANSWER_WIDTH,
+    1,
+];
+
 // A pool and words in which nothing is held yet.
 pub fn new_pool() -> Pool
     ensures { result ≡ replicate 69632 0 }
@@ -72,29 +81,12 @@ pub fn new_words() -> Words
     [0; WORDS]
 }
 
-// How many words a row of a table has; 0 of the pool and of no table.
+// How many words a row of a table has; 0 of the pool and of no table. By number, since `row_width` and `row_start` promise an
+// answer for every number, also where it is no table's.
 pub fn row_width(number: usize) -> usize
     ensures { result ≡ width_of number }
 {
-    let widths = [
-        0,
-        NAME_WIDTH,
-        TYPE_REF_WIDTH,
-        TYPE_WIDTH,
-        MEMBER_WIDTH,
-        FIELD_WIDTH,
-        ARGUMENT_WIDTH,
-        SET_WIDTH,
-        SELECTION_WIDTH,
-        GIVEN_WIDTH,
-        FRAGMENT_WIDTH,
-        NODE_WIDTH,
-        LITERAL_WIDTH,
-        VARIABLE_WIDTH,
-        ANSWER_WIDTH,
-        1,
-    ];
-    if number < TABLES { widths[number] } else { 0 }
+    WIDTHS.get(number).copied().unwrap_or(0)
 }
 
 // Where a row begins in its table.
@@ -102,4 +94,25 @@ pub fn row_start(number: usize, row: u32) -> usize
     ensures { result ≡ width_of number * row }
 {
     row_width(number) * row as usize
+}
+
+impl Table {
+    pub fn number(self) -> usize
+        ensures is { result ≡ number_of self }
+        ensures below { result < 16 }
+    {
+        self as usize
+    }
+
+    pub fn row_width(self) -> usize
+        ensures { result ≡ width_of (number_of self) }
+    {
+        row_width(self.number())
+    }
+
+    pub fn row_start(self, row: u32) -> usize
+        ensures { result ≡ width_of (number_of self) * row }
+    {
+        row_start(self.number(), row)
+    }
 }

@@ -4,6 +4,7 @@
 #![tactic(auto)]
 
 pub mod fault;
+mod held;
 mod keywords;
 pub mod layout;
 mod lines;
@@ -15,6 +16,6 @@ mod store;
 mod strings;
 mod tokens;
 
-pub use lines::{Contents, line_of_row, read};
-pub use numbers::{Number, word_number};
-pub use store::{pool_bytes, root, table};
+pub use held::Held;
+pub use lines::{Contents, NoTableFile, line_of_row, read};
+pub use numbers::word_number;

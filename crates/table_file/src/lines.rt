@@ -1,180 +1,140 @@
 // A table file, line by line.
-ghost use Rattle.std.specs.Prelude.{◌≡◌, ◌≤◌, ◌<◌, length};
-ghost use Rattle.table_file.specs.Sizes.{Within};
-ghost use Rattle.table_file.specs.Read.{Read};
+ghost use Rattle.std.specs.Prelude.{◌≡◌, ◌≤◌, ◌<◌, length, MatchResult, IfErr};
+ghost use Rattle.table_file.specs.Read.{Read, Refused};
 
-use crate::fault::Fault;
+use crate::fault::{Fault, Misread};
 use crate::keywords::heading;
-use crate::layout;
-use crate::layout::{Pool, Sizes, Words, row_start};
+use crate::layout::{Pool, Sizes, Table, Words};
 use crate::row::line_of_rows;
 use crate::scan::{byte_at, ends_line, next_line, skip_blanks, token_end};
+use crate::store::Store;
 
-// What a line leaves: where the next begins, and the table that stands open. Where something is
-// wrong, `at` is the place of it.
-#[derive(Clone, Copy)]
-pub struct Line {
-    pub next: usize,
-    pub number: usize,
-    pub at: usize,
-    pub fault: Fault,
-}
-
-// What a file holds: how many words of each table, and the pool's bytes at 0. Where it is no
-// table file, `fault` says why, `line` where, and the token there lies between `from` and `to`.
+// What a file holds: how many words of each table, and the pool's bytes at 0; and how many lines it has.
 #[derive(Clone, Copy)]
 pub struct Contents {
     pub sizes: Sizes,
+    pub line: usize,
+}
+
+// Why a text is no table file, and in which line. The token there lies between `from` and `to`.
+#[derive(Clone, Copy, PartialEq, Eq, Debug)]
+pub struct NoTableFile {
     pub line: usize,
     pub from: usize,
     pub to: usize,
     pub fault: Fault,
 }
 
-// A line that begins a table, whose heading stands at `from`.
-fn heading_line(text: &[u8], from: usize, next: usize) -> Line
-    requires { from ≤ length text.now }
-    ensures { (result.next ≡ next) × (result.number ≤ 16) × (result.at ≤ length text.now) }
-{
-    let end = token_end(text, from);
-    let number = heading(&text[from..end]);
-    if number == layout::TABLES {
-        return Line {
-            next: next,
-            number: number,
-            at: from,
-            fault: Fault::UnknownTable,
-        };
-    }
-    let rest = skip_blanks(text, end);
-    if ends_line(byte_at(text, rest)) {
-        return Line {
-            next: next,
-            number: number,
-            at: from,
-            fault: Fault::Fine,
-        };
-    }
-    Line {
-        next: next,
-        number: number,
-        at: rest,
-        fault: Fault::AfterHeading,
-    }
+// How far a file is read: up to which line, and where the next one begins.
+#[derive(Clone, Copy)]
+struct Reached {
+    line: usize,
+    at: usize,
 }
 
-// The line that begins at `at`, with the table `number` open.
+// The table that a line begins, whose heading stands at `from`.
+fn heading_line(text: &[u8], from: usize) -> Result<Table, Misread>
+    requires { from ≤ length text.now }
+    ensures { IfErr result (λ wrong. wrong.at ≤ length text.now) }
+{
+    let end = token_end(text, from);
+    let Some(table) = heading(&text[from..end]) else {
+        return Err(Misread {
+            at: from,
+            fault: Fault::UnknownTable,
+        });
+    };
+    let rest = skip_blanks(text, end);
+    if !ends_line(byte_at(text, rest)) {
+        return Err(Misread {
+            at: rest,
+            fault: Fault::AfterHeading,
+        });
+    }
+    Ok(table)
+}
+
+// Reads the line that begins at `at`, and gives the table that stands open behind it; `open` is the one before it.
 fn line_at(
     text: &[u8],
     at: usize,
-    number: usize,
-    pool: &mut Pool,
-    words: &mut Words,
-    sizes: &mut Sizes,
-) -> Line
-    requires { (at < length text.now) × (number ≤ 16) × Within sizes.old }
-    ensures { (at < result.next) × (result.next ≤ length text.now) × (result.number ≤ 16) × (result.at ≤ length text.now) × Within sizes.new }
+    open: Option<Table>,
+    store: &mut Store,
+) -> Result<Option<Table>, Misread>
+    requires { at < length text.now }
+    ensures { IfErr result (λ wrong. wrong.at ≤ length text.now) }
 {
-    let next = next_line(text, at);
     let from = skip_blanks(text, at);
     let b = byte_at(text, from);
     if ends_line(b) {
-        return Line {
-            next: next,
-            number: number,
-            at: from,
-            fault: Fault::Fine,
-        };
+        return Ok(open);
     }
     if b == b'[' {
-        return heading_line(text, from, next);
+        return Ok(Some(heading_line(text, from)?));
     }
-    if number == layout::TABLES {
-        return Line {
-            next: next,
-            number: number,
+    let Some(table) = open else {
+        return Err(Misread {
             at: from,
             fault: Fault::NoTableYet,
-        };
-    }
-    let step = line_of_rows(number, text, from, pool, words, sizes);
-    let why = step.fault;
-    Line {
-        next: next,
-        number: number,
-        at: step.at,
-        fault: why,
-    }
+        });
+    };
+    line_of_rows(table, text, from, store)?;
+    Ok(open)
 }
 
-// Reads a table file up to the line with which this table has more than so many words, or to its end.
+// Reads a table file up to the line with which this table has more than so many words, or to its end. A `while`, since faults have places
+// in the whole text, which an iterator over lines would not know.
 fn read_beyond(
     text: &[u8],
-    pool: &mut Pool,
-    words: &mut Words,
-    table: usize,
+    store: &mut Store,
+    table: Table,
     most: usize,
-) -> Contents
-    requires { table < 16 }
-    ensures { Read text.now result }
+) -> Result<Reached, NoTableFile>
+    ensures { MatchResult result (λ end. (end.line ≤ length text.now) × (end.at ≤ length text.now)) (Refused text.now) }
 {
-    let mut sizes = [0usize; 16];
     let mut at = 0;
-    let mut number = layout::TABLES;
     let mut line = 0;
-    while at < text.len() && sizes[table] <= most {
+    let mut open = None;
+    while at < text.len() && store.size(table) <= most {
         line += 1;
-        let read = line_at(text, at, number, pool, words, &mut sizes);
-        let why = read.fault;
-        let Fault::Fine = why else {
-            let to = token_end(text, read.at);
-            return Contents {
-                sizes: sizes,
-                line: line,
-                from: read.at,
-                to: to,
-                fault: why,
-            };
-        };
-        at = read.next;
-        number = read.number;
+        open = line_at(text, at, open, store).map_err(|wrong| NoTableFile {
+            line,
+            from: wrong.at,
+            to: token_end(text, wrong.at),
+            fault: wrong.fault,
+        })?;
+        at = next_line(text, at);
     }
-    Contents {
-        sizes: sizes,
-        line: line,
-        from: at,
-        to: at,
-        fault: Fault::Fine,
-    }
+    Ok(Reached { line, at })
 }
 
 // Reads a table file. Where the root has more than one number, reading stops with the second.
-pub fn read(text: &[u8], pool: &mut Pool, words: &mut Words) -> Contents
+pub fn read(text: &[u8], pool: &mut Pool, words: &mut Words) -> Result<Contents, NoTableFile>
     ensures { Read text.now result }
 {
-    let contents = read_beyond(text, pool, words, layout::ROOT, 1);
-    let why = contents.fault;
-    let Fault::Fine = why else {
-        return contents;
-    };
-    let sizes = contents.sizes;
-    if sizes[layout::ROOT] <= 1 {
-        return contents;
+    let mut store = Store::new(pool, words);
+    let end = read_beyond(text, &mut store, Table::Root, 1)?;
+    if store.size(Table::Root) > 1 {
+        return Err(NoTableFile {
+            line: end.line,
+            from: end.at,
+            to: end.at,
+            fault: Fault::RootGivenTwice,
+        });
     }
-    Contents {
-        sizes: sizes,
-        line: contents.line,
-        from: contents.from,
-        to: contents.to,
-        fault: Fault::RootGivenTwice,
-    }
+    Ok(Contents {
+        sizes: store.filled.sizes,
+        line: end.line,
+    })
 }
 
 // The line that gives a row of a table. The text is read again up to it, into the same pool and words.
-pub fn line_of_row(text: &[u8], pool: &mut Pool, words: &mut Words, table: usize, row: u32) -> usize
-    requires { table < 16 }
+pub fn line_of_row(text: &[u8], pool: &mut Pool, words: &mut Words, table: Table, row: u32) -> usize
     ensures { result ≤ length text.now }
 {
-    let again = read_beyond(text, pool, words, table, row_start(table, row));
-    again.line
+    let mut store = Store::new(pool, words);
+    match read_beyond(text, &mut store, table, table.row_start(row)) {
+        Ok(end) => end.line,
+        Err(end) => end.line,
+    }
 }

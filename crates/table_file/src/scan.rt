@@ -2,12 +2,12 @@
 ghost use Rattle.std.specs.Prelude.{◌≤◌, ◌<◌, length};
 
 pub(crate) fn is_blank(b: u8) -> bool {
-    b == b' ' || b == b'\t' || b == b'\r'
+    matches!(b, b' ' | b'\t' | b'\r')
 }
 
 // A line ends at its end or where a comment starts.
 pub(crate) fn ends_line(b: u8) -> bool {
-    b == b'\n' || b == b'#'
+    matches!(b, b'\n' | b'#')
 }
 
 pub(crate) fn ends_token(b: u8) -> bool {
@@ -16,7 +16,19 @@ pub(crate) fn ends_token(b: u8) -> bool {
 
 // The byte at a position; the text's end is as good as a line's.
 pub(crate) fn byte_at(text: &[u8], at: usize) -> u8 {
-    if at < text.len() { text[at] } else { b'\n' }
+    text.get(at).copied().unwrap_or(b'\n')
+}
+
+// Where the first byte stands, from here on, at which `stops` says to stop; the text's end where there is none.
+fn find<S: Fn(u8) -> bool>(text: &[u8], from: usize, stops: S) -> usize
+    requires callable { S.IsAlwaysCallable stops }
+    requires from_in_bounds { from ≤ length text.now }
+    ensures { (from ≤ result) × (result ≤ length text.now) }
+{
+    match text[from..].iter().position(|b| stops(*b)) {
+        Some(passed) => from + passed,
+        None => text.len(),
+    }
 }
 
 // The first byte from here on that is no blank.
@@ -24,14 +36,7 @@ pub(crate) fn skip_blanks(text: &[u8], from: usize) -> usize
     requires { from ≤ length text.now }
     ensures { (from ≤ result) × (result ≤ length text.now) }
 {
-    let mut at = from;
-    while at < text.len() {
-        if !is_blank(text[at]) {
-            return at;
-        }
-        at += 1;
-    }
-    at
+    find(text, from, |b| !is_blank(b))
 }
 
 // Where a token that has begun ends.
@@ -39,14 +44,7 @@ pub(crate) fn token_end(text: &[u8], from: usize) -> usize
     requires { from ≤ length text.now }
     ensures { (from ≤ result) × (result ≤ length text.now) }
 {
-    let mut at = from;
-    while at < text.len() {
-        if ends_token(text[at]) {
-            return at;
-        }
-        at += 1;
-    }
-    at
+    find(text, from, ends_token)
 }
 
 // Where the next line begins, or the text's end.
@@ -54,12 +52,6 @@ pub(crate) fn next_line(text: &[u8], from: usize) -> usize
     requires { from < length text.now }
     ensures { (from < result) × (result ≤ length text.now) }
 {
-    let mut at = from;
-    while at < text.len() {
-        if text[at] == b'\n' {
-            return at + 1;
-        }
-        at += 1;
-    }
-    at
+    let end = find(text, from, |b| b == b'\n');
+    if end < text.len() { end + 1 } else { end }
 }

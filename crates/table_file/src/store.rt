@@ -1,87 +1,144 @@
-// The words of the tables, each table in its region, and how many there are of each.
-//
-// `sizes` has the number of words of each table, and of the pool's bytes at 0.
-ghost use Rattle.std.specs.Prelude.{◌≡◌, ◌≤◌, ◌<◌};
-ghost use Rattle.table_file.specs.Held.{pool_of, table_of, root_of};
+// What is held so far while a text is read.
+ghost use Rattle.std.specs.Prelude.{◌≡◌, ◌≤◌, ◌<◌, ◌+◌, length, get_or, IfOk};
+ghost use Rattle.table_file.specs.Numbers.{number_of, room_of};
 ghost use Rattle.table_file.specs.Sizes.{Within};
 
 use crate::fault::Fault;
-use crate::layout;
-use crate::layout::{Sizes, Words};
+use crate::held::Held;
+use crate::layout::{POOL_BYTES, Pool, REGION, Sizes, TABLES, Table, Words};
 
-// The words of a table; those that are there, where they end before them.
-pub fn table<'a>(words: &'a [u32], sizes: Sizes, number: usize) -> &'a [u32]
-    requires { number < 16 }
-    ensures { result.now ≡ table_of words.now sizes number }
+// How much there is of each table, which is never more than there is room for.
+#[derive(Clone, Copy)]
+pub(crate) struct Filled {
+    pub sizes: Sizes,
+    ghost within: { Within sizes },
+}
+
+impl Filled {
+    fn nothing() -> Filled {
+        Filled { sizes: [0; TABLES] }
+    }
+
+    fn size(&self, table: Table) -> usize
+        ensures is { result ≡ get_or self.now.sizes (number_of table) 0 }
+        ensures within { result ≤ room_of table }
+    {
+        self.sizes[table.number()]
+    }
+
+    fn set_size(&mut self, table: Table, size: usize)
+        requires { size ≤ room_of table }
+        ensures { get_or self.new.sizes (number_of table) 0 ≡ size }
+    {
+        self.sizes[table.number()] = size;
+    }
+}
+
+// How much of a table there is room for.
+fn room(table: Table) -> usize
+    ensures { result ≡ room_of table }
 {
-    let start = number * layout::REGION;
-    let size = sizes[number];
-    if start <= words.len() {
-        if size <= words.len() - start {
-            &words[start..start + size]
-        } else {
-            &words[start..]
+    match table {
+        Table::Pool => POOL_BYTES,
+        _ => REGION,
+    }
+}
+
+// What is wrong with what goes beyond that.
+fn full(table: Table) -> Fault {
+    match table {
+        Table::Pool => Fault::PoolFull,
+        _ => Fault::TableFull,
+    }
+}
+
+// Makes the first `count` items stand again behind themselves, until there are `total`.
+fn repeat_items<T: Copy>(items: &mut [T], count: usize, total: usize)
+    requires { total ≤ length items.old }
+{
+    for k in count..total {
+        items[k] = items[k - count];
+    }
+}
+
+// The pool and the words that a text is read into, and how much of them is filled.
+#[derive(Drop)]
+pub(crate) struct Store<'a> {
+    pub pool: &'a mut Pool,
+    pub words: &'a mut Words,
+    pub filled: Filled,
+}
+
+impl<'a> Store<'a> {
+    pub(crate) fn new(pool: &'a mut Pool, words: &'a mut Words) -> Store<'a> {
+        Store {
+            pool,
+            words,
+            filled: Filled::nothing(),
         }
-    } else {
-        &words[..0]
     }
-}
 
-// The pool's bytes that are filled; all of them, where it ends before them.
-pub fn pool_bytes<'a>(pool: &'a [u8], sizes: Sizes) -> &'a [u8]
-    ensures { result.now ≡ pool_of pool.now sizes }
-{
-    let size = sizes[layout::POOL];
-    if size <= pool.len() {
-        &pool[..size]
-    } else {
-        &pool[..]
+    pub(crate) fn held(&self) -> Held<'_>
+        ensures { result.sizes ≡ self.now.filled.sizes }
+    {
+        Held {
+            pool: self.pool,
+            words: self.words,
+            sizes: self.filled.sizes,
+        }
     }
-}
 
-// The number of the root type: 0 unless it is given.
-pub fn root(words: &[u32], sizes: Sizes) -> u32
-    ensures { result ≡ root_of words.now sizes }
-{
-    let given = table(words, sizes, layout::ROOT);
-    if 0 < given.len() { given[0] } else { 0 }
-}
-
-// How many words a table has.
-pub(crate) fn table_size(sizes: &Sizes, number: usize) -> usize
-    requires { (0 < number) × (number < 16) × Within sizes.now }
-    ensures { result ≤ 20640 }
-{
-    sizes[number]
-}
-
-// How many bytes the pool has.
-pub(crate) fn pool_size(sizes: &Sizes) -> usize
-    requires { Within sizes.now }
-    ensures { result ≤ 69632 }
-{
-    sizes[layout::POOL]
-}
-
-// Notes how many bytes the pool has now.
-pub(crate) fn fill_pool(sizes: &mut Sizes, filled: usize)
-    requires { (filled ≤ 69632) × Within sizes.old }
-    ensures { Within sizes.new }
-{
-    sizes[layout::POOL] = filled;
-}
-
-// Puts a word at a table's end, where there is room.
-pub(crate) fn append(words: &mut Words, sizes: &mut Sizes, number: usize, word: u32) -> Fault
-    requires { (0 < number) × (number < 16) × Within sizes.old }
-    ensures { Within sizes.new }
-{
-    let size = sizes[number];
-    if size >= layout::REGION {
-        return Fault::TableFull;
+    pub(crate) fn size(&self, table: Table) -> usize
+        ensures is { result ≡ get_or self.now.filled.sizes (number_of table) 0 }
+        ensures within { result ≤ room_of table }
+    {
+        self.filled.size(table)
     }
-    let place = number * layout::REGION + size;
-    words[place] = word;
-    sizes[number] = size + 1;
-    Fault::Fine
+
+    // Puts a byte at the pool's end, where there is room.
+    pub(crate) fn append_byte(&mut self, byte: u8) -> Result<(), Fault>
+        ensures { get_or self.old.filled.sizes 0 0 ≤ get_or self.new.filled.sizes 0 0 }
+    {
+        let size = self.filled.size(Table::Pool);
+        if size >= POOL_BYTES {
+            return Err(Fault::PoolFull);
+        }
+        self.pool[size] = byte;
+        self.filled.set_size(Table::Pool, size + 1);
+        Ok(())
+    }
+
+    // Puts a word at a table's end, where there is room. The pool has no words, and none is put there.
+    pub(crate) fn append(&mut self, table: Table, word: u32) -> Result<(), Fault> {
+        let size = self.filled.size(table);
+        if size >= REGION {
+            return Err(Fault::TableFull);
+        }
+        self.words[table.number() * REGION + size] = word;
+        self.filled.set_size(table, size + 1);
+        Ok(())
+    }
+
+    // Makes what a table has from `start` on stand so many times.
+    pub(crate) fn repeat(&mut self, table: Table, start: usize, times: u32) -> Result<(), Fault>
+        requires { start ≤ room_of table }
+    {
+        let count = self.filled.size(table).saturating_sub(start);
+        let total = count * times as usize;
+        if total > room(table) - start {
+            return Err(full(table));
+        }
+        match table {
+            Table::Pool => {
+                let pool = &mut *self.pool;
+                repeat_items(&mut pool[start..], count, total);
+            }
+            _ => {
+                let words = &mut *self.words;
+                repeat_items(&mut words[table.number() * REGION + start..], count, total);
+            }
+        }
+        self.filled.set_size(table, start + total);
+        Ok(())
+    }
 }

@@ -1,172 +1,93 @@
 // Strings, whose bytes go to the pool.
-ghost use Rattle.std.specs.Prelude.{◌≡◌, ◌≤◌, ◌<◌, length};
+ghost use Rattle.std.specs.Prelude.{◌≡◌, ◌≤◌, ◌<◌, length, get_or, IfOk};
 
 use crate::fault::Fault;
-use crate::layout;
-use crate::layout::Pool;
 use crate::scan::{byte_at, ends_token};
+use crate::store::Store;
 
 // One byte of a string, and where the next begins.
 #[derive(Clone, Copy)]
-pub struct Letter {
-    pub at: usize,
-    pub byte: u8,
-    pub fault: Fault,
+struct Letter {
+    at: usize,
+    byte: u8,
 }
 
-// A string that was read: where it ends, and how many bytes the pool then has.
-#[derive(Clone, Copy)]
-pub struct Spelled {
-    pub at: usize,
-    pub filled: usize,
-    pub fault: Fault,
-}
-
-// What a hexadecimal digit says, 16 for any other byte.
-fn hex_digit(b: u8) -> u8
-    ensures { result ≤ 16 }
-{
-    match b {
-        b'0'..=b'9' => b - b'0',
-        b'a'..=b'f' => b - b'a' + 10,
-        b'A'..=b'F' => b - b'A' + 10,
-        _ => 16,
-    }
+// The byte that two hexadecimal digits spell.
+fn hex_byte(high: u8, low: u8) -> Option<u8> {
+    let high = (high as char).to_digit(16)?;
+    let low = (low as char).to_digit(16)?;
+    Some((high * 16 + low) as u8)
 }
 
 // The byte of an escape by two hexadecimal digits, the first of which stands at `from`.
-fn hex_escape(text: &[u8], from: usize) -> Letter
+fn hex_escape(text: &[u8], from: usize) -> Result<Letter, Fault>
     requires { from ≤ length text.now }
-    ensures { (from ≤ result.at) × (result.at ≤ length text.now) }
+    ensures { IfOk result (λ letter. (from ≤ letter.at) × (letter.at ≤ length text.now)) }
 {
-    if text.len() - from < 2 {
-        return Letter {
-            at: from,
-            byte: 0,
-            fault: Fault::UnknownEscape,
-        };
-    }
-    let high = hex_digit(text[from]);
-    let low = hex_digit(text[from + 1]);
-    if high > 15 {
-        return Letter {
-            at: from,
-            byte: 0,
-            fault: Fault::UnknownEscape,
-        };
-    }
-    if low > 15 {
-        return Letter {
-            at: from,
-            byte: 0,
-            fault: Fault::UnknownEscape,
-        };
-    }
-    Letter {
-        at: from + 2,
-        byte: high * 16 + low,
-        fault: Fault::Fine,
-    }
+    let [high, low, ..] = &text[from..] else {
+        return Err(Fault::UnknownEscape);
+    };
+    let byte = hex_byte(*high, *low).ok_or(Fault::UnknownEscape)?;
+    Ok(Letter { at: from + 2, byte })
 }
 
-// The byte that the letter behind a backslash stands for, 0 for none.
-fn escaped(b: u8) -> u8 {
+// The byte that the letter behind a backslash stands for.
+fn escaped(b: u8) -> Option<u8> {
     match b {
-        b'"' => b'"',
-        b'\\' => b'\\',
-        b'n' => b'\n',
-        b't' => b'\t',
-        _ => 0,
+        b'"' | b'\\' => Some(b),
+        b'n' => Some(b'\n'),
+        b't' => Some(b'\t'),
+        _ => None,
     }
 }
 
 // The byte of a string that is written at `at`: as it stands, or by an escape.
-fn letter_at(text: &[u8], at: usize) -> Letter
+fn letter_at(text: &[u8], at: usize) -> Result<Letter, Fault>
     requires { at < length text.now }
-    ensures { (at < result.at) × (result.at ≤ length text.now) }
+    ensures { IfOk result (λ letter. (at < letter.at) × (letter.at ≤ length text.now)) }
 {
-    let b = text[at];
-    let next = at + 1;
-    if b != b'\\' {
-        return Letter {
-            at: next,
-            byte: b,
-            fault: Fault::Fine,
-        };
+    let byte = text[at];
+    if byte != b'\\' {
+        return Ok(Letter { at: at + 1, byte });
     }
-    if next == text.len() {
-        return Letter {
-            at: next,
-            byte: 0,
-            fault: Fault::UnknownEscape,
-        };
-    }
-    let kind = text[next];
+    let Some(&kind) = text.get(at + 1) else {
+        return Err(Fault::UnknownEscape);
+    };
     if kind == b'x' {
-        return hex_escape(text, next + 1);
+        return hex_escape(text, at + 2);
     }
-    let meant = escaped(kind);
-    if meant == 0 {
-        return Letter {
-            at: next,
-            byte: 0,
-            fault: Fault::UnknownEscape,
-        };
-    }
-    Letter {
-        at: next + 1,
-        byte: meant,
-        fault: Fault::Fine,
-    }
-}
-
-// What is read of a string so far, and why no more, if something is wrong.
-fn so_far(at: usize, filled: usize, why: Fault) -> Spelled
-    ensures { (result.at ≡ at) × (result.filled ≡ filled) }
-{
-    Spelled {
-        at: at,
-        filled: filled,
-        fault: why,
-    }
+    let byte = escaped(kind).ok_or(Fault::UnknownEscape)?;
+    Ok(Letter { at: at + 2, byte })
 }
 
 // Behind a string stands a blank, a comment or the line's end.
-fn closed(text: &[u8], at: usize, filled: usize) -> Spelled
-    ensures { (result.at ≡ at) × (result.filled ≡ filled) }
+fn closed(text: &[u8], at: usize) -> Result<usize, Fault>
+    ensures { IfOk result (λ end. end ≡ at) }
 {
     if ends_token(byte_at(text, at)) {
-        return so_far(at, filled, Fault::Fine);
+        Ok(at)
+    } else {
+        Err(Fault::AfterString)
     }
-    so_far(at, filled, Fault::AfterString)
 }
 
-// Appends the bytes of the string whose opening quote stands before `from`.
-pub(crate) fn string(text: &[u8], from: usize, pool: &mut Pool, before: usize) -> Spelled
-    requires { (from ≤ length text.now) × (before ≤ 69632) }
-    ensures { (from ≤ result.at) × (result.at ≤ length text.now) × (before ≤ result.filled) × (result.filled ≤ 69632) }
+// Appends the bytes of the string whose opening quote stands before `from`, and gives where it ends. A `while`, since a letter is one byte
+// of the text, two or four.
+pub(crate) fn string(text: &[u8], from: usize, store: &mut Store) -> Result<usize, Fault>
+    requires { from ≤ length text.now }
+    ensures end { IfOk result (λ end. (from ≤ end) × (end ≤ length text.now)) }
+    ensures grows { get_or store.old.filled.sizes 0 0 ≤ get_or store.new.filled.sizes 0 0 }
 {
     let mut at = from;
-    let mut filled = before;
     while at < text.len() {
-        let b = text[at];
-        if b == b'"' {
-            return closed(text, at + 1, filled);
+        match text[at] {
+            b'"' => return closed(text, at + 1),
+            b'\n' => break,
+            _ => {}
         }
-        if b == b'\n' {
-            return so_far(at, filled, Fault::StringNotClosed);
-        }
-        let letter = letter_at(text, at);
-        let why = letter.fault;
-        let Fault::Fine = why else {
-            return so_far(at, filled, why);
-        };
-        if filled >= layout::POOL_BYTES {
-            return so_far(at, filled, Fault::PoolFull);
-        }
-        pool[filled] = letter.byte;
-        filled += 1;
+        let letter = letter_at(text, at)?;
+        store.append_byte(letter.byte)?;
         at = letter.at;
     }
-    so_far(at, filled, Fault::StringNotClosed)
+    Err(Fault::StringNotClosed)
 }

@@ -1,7 +1,8 @@
 -- Rows looked at one after the other for two things: a test that each has to pass, and one that is only kept in mind. Assumes nothing.
 use mathlib.Core.Path.{◌≡◌, sym}
-use mathlib.Core.Bool.{Bool, true, false, not, ◌&&◌, false≢true}
+use mathlib.Core.Bool.{Bool, true, false, not, ◌&&◌}
 use Prim.Native.Nat.{ℕ, ◌+◌, ◌≤◌, ◌<◌}
+use Rattle.std.specs.Prelude.{Some, None}
 use Rattle.rows.specs.Rows.{all}
 use Rattle.tables.specs.ByTable.{Looked}
 use Rattle.rows.proofs.Every.{all_none, all_more, all_broken, all_ended, and_left, and_right}
@@ -21,11 +22,8 @@ module _ (p q : ℕ → Bool) where
     kept = λ g. all_more q row one (h.kept (and_left plain one g)) f (rw (and_right plain one g));
   }
 
-  pub looked_broken : (row count : ℕ) (r : Bool) → row < count → r ≡ p row → not r ≡ true
-      → Looked p q count (record { lawful = false; plain = false })
-  looked_broken row count r h e n = record { lawful = all_broken p row count r h e n; plain = λ f. absurd (false≢true f) }
+  pub looked_broken : (row count : ℕ) (r : Bool) → row < count → r ≡ p row → not r ≡ true → Looked p q count None
+  looked_broken row count r h e n = sym (all_broken p row count r h e n)
 
-  pub looked_ended : (row count : ℕ) (plain : Bool) → Passed row plain → row ≤ count → count ≤ row
-      → Looked p q count (record { lawful = true; plain = plain })
-  looked_ended row count plain h l m =
-      record { lawful = all_ended p row count h.held l m; plain = λ e. sym (all_ended q row count (h.kept e) l m) }
+  pub looked_ended : (row count : ℕ) (plain : Bool) → Passed row plain → row ≤ count → count ≤ row → Looked p q count (Some plain)
+  looked_ended row count plain h l m = (sym (all_ended p row count h.held l m), λ e. sym (all_ended q row count (h.kept e) l m))

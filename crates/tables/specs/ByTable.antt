@@ -1,6 +1,6 @@
 -- The rules as the check looks at them: how long the tables are, and then table by table, all that concerns one row together. That this is
 -- `rows_lawful` is proved; no public contract cites it.
-use Rattle.std.specs.Prelude.{◌≡◌, Bool, true, not, ◌&&◌, ◌||◌, List, [], ◌∷◌, ℕ, ◌≤◌, ◌<◌, length, get_or, ltb, eqb}
+use Rattle.std.specs.Prelude.{◌≡◌, Bool, true, false, not, ◌&&◌, ◌||◌, List, [], ◌∷◌, ℕ, ◌≤◌, ◌<◌, length, get_or, ltb, eqb}
 use Rattle.rows.specs.Layout.{name_width, type_ref_width, type_width, member_width, field_width, argument_width, set_width, selection_width, given_width, fragment_width, node_width, literal_width, variable_width, answer_width}
 use Rattle.rows.specs.Limits.{most_selections}
 use Rattle.rows.specs.Rows.{all, cell, rows_of}
@@ -12,7 +12,7 @@ use Rattle.rules.specs.Answers.{answer_row, answer_names_differ, root_answer}
 use Rattle.tables.specs.Tables.{Tables, name_count, ref_count, literal_count}
 use Rattle.tables.specs.Rules.{size_holds}
 use Rattle.tables.specs.declared.rule.SizeRule.TheVariants as size
-use Rattle.tables.specs.declared.data.Seen.{Seen}
+use Rattle.std.specs.Prelude.{Option, Some, None}
 
 -- every test of a list passes
 unfoldable pub conj : List Bool → Bool
@@ -99,10 +99,10 @@ by_table T =
     && conj (values_tests T.pool (name_count T) T.nodes T.literals T.variables T.answers)))
 
 -- What is kept on the way.
--- what was seen of all rows: whether the first test passes at each, and whether the second is known to
-pub record Looked (holds is_plain : ℕ → Bool) (count : ℕ) (seen : Seen) : Type 0 where
-  pub lawful : seen.lawful ≡ all holds count
-  pub plain : seen.plain ≡ true → all is_plain count ≡ true
+-- what was seen of all rows: nothing where the first test fails at one, and otherwise whether the second is known to pass at each
+abbrev pub Looked : (holds is_plain : ℕ → Bool) → ℕ → Option Bool → Type 0
+Looked holds is_plain count None = all holds count ≡ false
+Looked holds is_plain count (Some plain) = (all holds count ≡ true) × (plain ≡ true → all is_plain count ≡ true)
 
 -- an answer that has fewer than two names to compare
 abbrev pub plain_answer : List ℕ → ℕ → Bool

@@ -2,6 +2,7 @@
 use Rattle.std.specs.Prelude.{List, ℕ}
 use Rattle.rows.specs.Layout.{name_width, type_ref_width, type_width, member_width, field_width, argument_width, set_width, selection_width, given_width, fragment_width, node_width, literal_width, variable_width, answer_width}
 use Rattle.rows.specs.Rows.{rows_of}
+use Rattle.rows.specs.declared.tables.Tables.{Tables as Lent}
 
 pub record Tables : Type 0 where
   pub pool : List ℕ
@@ -40,6 +41,10 @@ tables pool names refs types members fields arguments sets selections given frag
   answers = answers;
   root = root;
 }
+
+-- the tables that a function is lent, as lists
+abbrev pub lent : Lent → Tables
+lent t = tables t.pool.now t.names.now t.type_refs.now t.types.now t.members.now t.fields.now t.arguments.now t.sets.now t.selections.now t.given.now t.fragments.now t.nodes.now t.literals.now t.variables.now t.answers.now t.root
 
 abbrev pub name_count : Tables → ℕ
 name_count T = rows_of T.names name_width

@@ -1,6 +1,6 @@
 // The table check: code 0 where every rule of document 01 on the tables lent holds, and 1 otherwise.
 ghost use Rattle.std.specs.Prelude.{◌≡◌};
-ghost use Rattle.tables.specs.Tables.{tables};
+ghost use Rattle.tables.specs.Tables.{lent};
 ghost use Rattle.tables.specs.Rules.{rows_lawful};
 ghost use Rattle.tables.specs.Lawful.{table_code, lawful_buffers, lawful_choices};
 
@@ -14,95 +14,81 @@ use rows::layout::row_count;
 use rows::limits::{MOST_CHOICES, MOST_ERROR_WORDS, MOST_TEXT_BYTES};
 use rows::names::NAME_WIDTH;
 use rows::schema::TYPE_REF_WIDTH;
+use rows::tables::Tables;
 
 pub const LAWFUL: u32 = 0;
 
 pub const UNLAWFUL: u32 = 1;
 
 // Every rule holds at every row that it speaks of.
-fn rows_are_lawful(
-    pool: &[u8],
-    names: &[u32],
-    type_refs: &[u32],
-    types: &[u32],
-    members: &[u32],
-    fields: &[u32],
-    arguments: &[u32],
-    sets: &[u32],
-    selections: &[u32],
-    given: &[u32],
-    fragments: &[u32],
-    nodes: &[u32],
-    literals: &[u32],
-    variables: &[u32],
-    answers: &[u32],
-    root: u32,
-) -> bool
-    ensures { result ≡ rows_lawful (tables pool.now names.now type_refs.now types.now members.now fields.now arguments.now sets.now selections.now given.now fragments.now nodes.now literals.now variables.now answers.now root) }
+fn rows_are_lawful(tables: &Tables) -> bool
+    ensures { result ≡ rows_lawful (lent tables.now) }
 {
-    let sized = schema_is_sized(pool, names, type_refs, types, fields, arguments)
-        & (document_is_sized(sets, selections, given, fragments)
-            & values_are_sized(nodes, literals, variables, answers));
+    let sized = schema_is_sized(
+        tables.pool,
+        tables.names,
+        tables.type_refs,
+        tables.types,
+        tables.fields,
+        tables.arguments,
+    ) & (document_is_sized(
+        tables.sets,
+        tables.selections,
+        tables.given,
+        tables.fragments,
+    ) & values_are_sized(
+        tables.nodes,
+        tables.literals,
+        tables.variables,
+        tables.answers,
+    ));
     if !sized {
         return false;
     }
-    let name_count = row_count(names, NAME_WIDTH);
-    let ref_count = row_count(type_refs, TYPE_REF_WIDTH);
-    let literal_count = row_count(literals, LITERAL_WIDTH);
+    let name_count = row_count(tables.names, NAME_WIDTH);
+    let ref_count = row_count(tables.type_refs, TYPE_REF_WIDTH);
+    let literal_count = row_count(tables.literals, LITERAL_WIDTH);
     if !schema_is_lawful(
-        pool,
-        names,
-        type_refs,
-        types,
-        members,
-        fields,
-        arguments,
+        tables.pool,
+        tables.names,
+        tables.type_refs,
+        tables.types,
+        tables.members,
+        tables.fields,
+        tables.arguments,
         literal_count,
-        root,
+        tables.root,
     ) {
         return false;
     }
     if !document_is_lawful(
         name_count,
         ref_count,
-        sets,
-        selections,
-        given,
-        fragments,
+        tables.sets,
+        tables.selections,
+        tables.given,
+        tables.fragments,
         literal_count,
     ) {
         return false;
     }
-    values_are_lawful(pool, name_count, nodes, literals, variables, answers)
+    values_are_lawful(
+        tables.pool,
+        name_count,
+        tables.nodes,
+        tables.literals,
+        tables.variables,
+        tables.answers,
+    )
 }
 
-pub fn table_check(
-    pool: &[u8],
-    names: &[u32],
-    type_refs: &[u32],
-    types: &[u32],
-    members: &[u32],
-    fields: &[u32],
-    arguments: &[u32],
-    sets: &[u32],
-    selections: &[u32],
-    given: &[u32],
-    fragments: &[u32],
-    nodes: &[u32],
-    literals: &[u32],
-    variables: &[u32],
-    answers: &[u32],
-    root: u32,
-) -> u32
-    ensures { result ≡ table_code (tables pool.now names.now type_refs.now types.now members.now fields.now arguments.now sets.now selections.now given.now fragments.now nodes.now literals.now variables.now answers.now root) }
+pub fn table_check(tables: &Tables) -> u32
+    ensures { result ≡ table_code (lent tables.now) }
 {
-    if !rows_are_lawful(
-        pool, names, type_refs, types, members, fields, arguments, sets, selections, given,
-        fragments, nodes, literals, variables, answers, root,
-    ) {
+    if !rows_are_lawful(tables) {
         return UNLAWFUL;
     }
-    if !defaults_are_closed(fields, arguments, literals) {
+    if !defaults_are_closed(tables.fields, tables.arguments, tables.literals) {
         return UNLAWFUL;
     }
     LAWFUL

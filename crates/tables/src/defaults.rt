@@ -33,13 +33,13 @@ fn is_closed(runs: &[u16], kind: u32, a: u32, b: u32) -> bool
     ensures { result ≡ closed_in runs.now (literal_of kind a b) }
 {
     match kind {
-        7 => is_in_run(runs, Range { first: a, count: b }),
-        8 => is_in_run(runs, Range { first: a, count: b }),
+        7 | 8 => is_in_run(runs, Range { first: a, count: b }),
         10 => false,
         _ => true,
     }
 }
 
+#[tactic(auto, unfolding(rows::specs::Json::literal_at))]
 fn row_is_closed(literals: &[u32], runs: &[u16], row: u32) -> bool
     requires { row < rows_of literals.now literal_width }
     ensures { result ≡ closed_in runs.now (literal_at literals.now row) }
@@ -73,9 +73,8 @@ fn mark_all(literals: &[u32], runs: &mut [u16])
     requires nested { Nested literals.now }
     ensures { Marked literals.now runs.new 0 }
 {
-    let mut row = row_count(literals, LITERAL_WIDTH);
-    while 0 < row {
-        row -= 1;
+    let rows = row_count(literals, LITERAL_WIDTH);
+    for row in (0..rows).rev() {
         mark_row(literals, runs, row);
     }
 }
@@ -84,14 +83,14 @@ fn mark_all(literals: &[u32], runs: &mut [u16])
 fn default_is_unmarked(runs: &[u16], default: u32) -> bool
     ensures { result ≡ default_unmarked runs.now (option_of default) }
 {
-    if default == 0 {
-        return true;
-    }
-    let rows = Range {
-        first: default - 1,
-        count: 1,
-    };
-    is_in_run(runs, rows)
+    (default == 0)
+        || is_in_run(
+            runs,
+            Range {
+                first: default - 1,
+                count: 1,
+            },
+        )
 }
 
 // The defaults of a table stand in one of its columns.
@@ -100,12 +99,7 @@ fn defaults_are_unmarked(t: &[u32], width: usize, column: usize, runs: &[u16]) -
     ensures { result ≡ all (row_unmarked t.now width column runs.now) (rows_of t.now width) }
 {
     let rows = row_count(t, width);
-    for row in 0..rows {
-        if !default_is_unmarked(runs, word(t, width, row, column)) {
-            return false;
-        }
-    }
-    true
+    (0..rows).all(|row| default_is_unmarked(runs, word(t, width, row, column)))
 }
 
 // The parts of literals come later, and the defaults of fields and arguments are literals that are there.

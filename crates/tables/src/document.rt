@@ -1,16 +1,14 @@
 // The operation's tables: one loop a table for all that is asked of each row.
-ghost use Rattle.std.specs.Prelude.{◌≡◌, true, ◌+◌, ◌≤◌, ◌<◌, length};
+ghost use Rattle.std.specs.Prelude.{◌≡◌, ◌+◌, ◌≤◌, ◌<◌};
 ghost use Rattle.rows.specs.Layout.{set_width, selection_width, given_width, fragment_width};
 ghost use Rattle.rows.specs.Limits.{most_selections};
 ghost use Rattle.rows.specs.Rows.{all, rows_of};
 ghost use Rattle.rows.specs.declared.layout.Range.{Range};
 ghost use Rattle.rows.specs.declared.document.FieldSelection.{FieldSelection};
-ghost use Rattle.rules.specs.Rows.{other};
 ghost use Rattle.rules.specs.Document.{given_row, given_of, fragment_row, selected_of, children_larger};
-ghost use Rattle.distinct.specs.Differ.{Since};
 ghost use Rattle.tables.specs.ByTable.{selection_holds, set_holds, conj, document_tests, Skips, LargerUpTo};
 
-use distinct::columns::{is_distinct_column, is_distinct_since, note_since};
+use distinct::columns::{Noted, is_distinct_column};
 use distinct::owners::owners_differ;
 use rows::columns::{
     FRAGMENT_NAME, GIVEN_LITERAL, GIVEN_NAME, SELECTION_GIVEN, SELECTION_GIVEN_COUNT,
@@ -20,8 +18,9 @@ use rows::columns::{
 use rows::document::{FRAGMENT_WIDTH, GIVEN_WIDTH, SELECTION_WIDTH, SET_WIDTH, set_at};
 use rows::layout::{Range, row_count, word};
 use rows::limits::MOST_SELECTIONS;
-use rules::document::{child_is_larger, fragment_row, selection_is_lawful, set_row};
+use rules::document::{FIELD_KIND, child_is_larger, fragment_row, selection_is_lawful, set_row};
 
+#[tactic(auto, unfolding(rows::specs::Document::given_at))]
 fn given_holds(names: u32, literals: u32, given: &[u32], row: u32) -> bool
     requires { row < rows_of given.now given_width }
     ensures { result ≡ given_row names literals given.now row }
@@ -34,19 +33,12 @@ fn each_given_holds(names: u32, literals: u32, given: &[u32]) -> bool
     ensures { result ≡ all (given_row names literals given.now) (rows_of given.now given_width) }
 {
     let count = row_count(given, GIVEN_WIDTH);
-    for row in 0..count {
-        if !given_holds(names, literals, given, row) {
-            return false;
-        }
-    }
-    true
+    (0..count).all(|row| given_holds(names, literals, given, row))
 }
 
 // Of a selection's words: only a field is given arguments, and their names differ.
-fn given_differ_since(
-    given: &[u32],
-    since: &[u16],
-    known: usize,
+fn given_differ(
+    given: &Noted<GIVEN_WIDTH, GIVEN_NAME>,
     kind: u32,
     name: u32,
     key: u32,
@@ -54,30 +46,24 @@ fn given_differ_since(
     set: u32,
     ty: u32,
 ) -> bool
-    requires { (known < length since.now) × Since (other given.now given_width 0) known since.now }
     ensures { result ≡ given_of given.now (selected_of kind name (record { name = name; key = key; given = its_given; set = set; ty = ty })) }
 {
-    if kind != 0 {
-        return true;
-    }
-    is_distinct_since(given, GIVEN_WIDTH, GIVEN_NAME, since, known, its_given)
+    (kind != FIELD_KIND) || given.is_distinct(its_given)
 }
 
 // `count` is how many arguments are given; the notes are on their names.
+#[tactic(auto, unfolding(crate::specs::ByTable::selection_holds, rows::specs::Document::selection_at, rows::specs::Document::selection_of, rows::specs::Document::field_selection, rows::specs::Document::spread_selection, rows::specs::Document::inline_selection))]
 fn selection_holds(
     names: u32,
     type_refs: u32,
     sets: u32,
     count: u32,
     selections: &[u32],
-    given: &[u32],
-    since: &[u16],
-    known: usize,
+    given: &Noted<GIVEN_WIDTH, GIVEN_NAME>,
     row: u32,
 ) -> bool
     requires row_bound { row < rows_of selections.now selection_width }
     requires count_value { count ≡ rows_of given.now given_width }
-    requires known_in_bounds { (known < length since.now) × Since (other given.now given_width 0) known since.now }
     ensures { result ≡ selection_holds names type_refs sets selections.now given.now row }
 {
     let kind = word(selections, SELECTION_WIDTH, row, SELECTION_KIND);
@@ -91,44 +77,9 @@ fn selection_holds(
     };
     let set = word(selections, SELECTION_WIDTH, row, SELECTION_SET);
     let ty = word(selections, SELECTION_WIDTH, row, SELECTION_TYPE);
-    if !selection_is_lawful(
+    selection_is_lawful(
         names, type_refs, sets, count, kind, skip, include, name, key, its_given, set, ty,
-    ) {
-        return false;
-    }
-    given_differ_since(given, since, known, kind, name, key, its_given, set, ty)
-}
-
-fn each_selection_holds(
-    names: u32,
-    type_refs: u32,
-    sets: u32,
-    selections: &[u32],
-    given: &[u32],
-    since: &[u16],
-    known: usize,
-) -> bool
-    requires { (known < length since.now) × Since (other given.now given_width 0) known since.now }
-    ensures { result ≡ all (selection_holds names type_refs sets selections.now given.now) (rows_of selections.now selection_width) }
-{
-    let given_count = row_count(given, GIVEN_WIDTH);
-    let count = row_count(selections, SELECTION_WIDTH);
-    for row in 0..count {
-        if !selection_holds(
-            names,
-            type_refs,
-            sets,
-            given_count,
-            selections,
-            given,
-            since,
-            known,
-            row,
-        ) {
-            return false;
-        }
-    }
-    true
+    ) && given_differ(given, kind, name, key, its_given, set, ty)
 }
 
 fn selections_hold(names: u32, type_refs: u32, sets: u32, selections: &[u32], given: &[u32]) -> bool
@@ -136,20 +87,18 @@ fn selections_hold(names: u32, type_refs: u32, sets: u32, selections: &[u32], gi
 {
     // There is no limit to these. More than get a note are gone through.
     let mut since = [0u16; 4097];
-    let known = note_since(given, GIVEN_WIDTH, GIVEN_NAME, &mut since);
-    each_selection_holds(names, type_refs, sets, selections, given, &since, known)
+    let noted = Noted::new(given, &mut since);
+    let given_count = row_count(given, GIVEN_WIDTH);
+    (0..row_count(selections, SELECTION_WIDTH)).all(|row| {
+        selection_holds(names, type_refs, sets, given_count, selections, &noted, row)
+    })
 }
 
 fn each_fragment_holds(names: u32, sets: u32, fragments: &[u32]) -> bool
     ensures { result ≡ all (fragment_row names sets fragments.now) (rows_of fragments.now fragment_width) }
 {
     let count = row_count(fragments, FRAGMENT_WIDTH);
-    for row in 0..count {
-        if !fragment_row(names, sets, fragments, row) {
-            return false;
-        }
-    }
-    true
+    (0..count).all(|row| fragment_row(names, sets, fragments, row))
 }
 
 // The first selection from `from` on that was not looked at in this set or a larger one. Every way that is gone is half as long the next
@@ -193,16 +142,14 @@ fn children_are_larger(selections: &[u32], set: u32, skips: &mut [u16], rows: Ra
     true
 }
 
+#[tactic(auto, unfolding(crate::specs::ByTable::set_holds))]
 fn set_holds(selections: &[u32], count: u32, sets: &[u32], skips: &mut [u16], set: u32) -> bool
     requires skips { Skips selections.now set skips.old }
     requires count_value { (count ≡ rows_of selections.now selection_width) × (count ≤ most_selections) }
     ensures value { result ≡ set_holds sets.now selections.now set }
     ensures skips_2 { Skips selections.now set skips.new }
 {
-    if !set_row(count, sets, set) {
-        return false;
-    }
-    children_are_larger(selections, set, skips, set_at(sets, set))
+    set_row(count, sets, set) && children_are_larger(selections, set, skips, set_at(sets, set))
 }
 
 fn each_set_holds(sets: &[u32], selections: &[u32]) -> bool
@@ -211,9 +158,8 @@ fn each_set_holds(sets: &[u32], selections: &[u32]) -> bool
 {
     let count = row_count(selections, SELECTION_WIDTH);
     let mut skips = [0u16; MOST_SELECTIONS + 1];
-    let mut set = row_count(sets, SET_WIDTH);
-    while 0 < set {
-        set -= 1;
+    let set_count = row_count(sets, SET_WIDTH);
+    for set in (0..set_count).rev() {
         if !set_holds(selections, count, sets, &mut skips, set) {
             return false;
         }
@@ -221,6 +167,7 @@ fn each_set_holds(sets: &[u32], selections: &[u32]) -> bool
     true
 }
 
+#[tactic(auto, unfolding(crate::specs::ByTable::conj))]
 pub(crate) fn document_is_lawful(
     names: u32,
     type_refs: u32,
@@ -234,20 +181,10 @@ pub(crate) fn document_is_lawful(
     ensures { result ≡ conj (document_tests names type_refs sets.now selections.now given.now fragments.now literals) }
 {
     let set_count = row_count(sets, SET_WIDTH);
-    if !each_given_holds(names, literals, given) {
-        return false;
-    }
-    if !selections_hold(names, type_refs, set_count, selections, given) {
-        return false;
-    }
-    if !each_fragment_holds(names, set_count, fragments) {
-        return false;
-    }
-    if !is_distinct_column(fragments, FRAGMENT_WIDTH, FRAGMENT_NAME) {
-        return false;
-    }
-    if !owners_differ(selections, fragments) {
-        return false;
-    }
-    each_set_holds(sets, selections)
+    each_given_holds(names, literals, given)
+        && selections_hold(names, type_refs, set_count, selections, given)
+        && each_fragment_holds(names, set_count, fragments)
+        && is_distinct_column(fragments, FRAGMENT_WIDTH, FRAGMENT_NAME)
+        && owners_differ(selections, fragments)
+        && each_set_holds(sets, selections)
 }

@@ -17,6 +17,7 @@ use rows::names::NAME_WIDTH;
 use rows::schema::{ARGUMENT_WIDTH, FIELD_WIDTH, TYPE_REF_WIDTH, TYPE_WIDTH};
 use rules::layout::is_counted;
 
+#[tactic(auto, unfolding(crate::specs::ByTable::conj))]
 pub(crate) fn schema_is_sized(
     pool: &[u8],
     names: &[u32],
@@ -35,6 +36,7 @@ pub(crate) fn schema_is_sized(
                         & is_counted(arguments, ARGUMENT_WIDTH, 0, MOST_ARGUMENTS)))))
 }
 
+#[tactic(auto, unfolding(crate::specs::ByTable::conj))]
 pub(crate) fn document_is_sized(
     sets: &[u32],
     selections: &[u32],
@@ -49,6 +51,7 @@ pub(crate) fn document_is_sized(
                 & is_counted(fragments, FRAGMENT_WIDTH, 0, MOST_FRAGMENTS)))
 }
 
+#[tactic(auto, unfolding(crate::specs::ByTable::conj))]
 pub(crate) fn values_are_sized(
     nodes: &[u32],
     literals: &[u32],

@@ -6,18 +6,20 @@ use mathlib.Core.Bool.{Bool, true, false, true≢false, not, ◌&&◌, and-true,
 use native.Mathlib.Omega.{arith}
 use borrow.Author.Tests.{lt-ltb, le-ltb, leb-true, leb-false, ne_eqb}
 use lib.Dec.{ltb, leb, eqb}
+use Rattle.std.specs.Prelude.{Some, None}
+use Rattle.std.proofs.lemmas.Option.{none-some}
 use native.Mathlib.Numerals.{add-one}
 use lib.ListN.{length, take, drop, get_or, length-drop, take-append-drop}
 use lib.Seq.{take-add, take_all, take-suc}
 use Rattle.tokens.specs.Escape.{escape_letter, code_point_escape, is_plain, all_plain, escaped, escaped_all}
 
 -- a letter l was found for b
-pub escaped_letter : (b : ℕ) {l : ℕ} → l ≡ escape_letter b → 0 < l → escaped b ≡ 92 ∷ l ∷ []
+pub escaped_letter : (b : ℕ) {l : ℕ} → escape_letter b ≡ Some l → escaped b ≡ 92 ∷ l ∷ []
 unfolding escaped
-escaped_letter b e h = rw (← e, lt-ltb 0 _ h)
+escaped_letter b e = rw e
 
 -- a plain byte has no letter
-no_letter : (b : ℕ) → 32 ≤ b → eqb b 34 ≡ false → eqb b 92 ≡ false → escape_letter b ≡ 0
+no_letter : (b : ℕ) → 32 ≤ b → eqb b 34 ≡ false → eqb b 92 ≡ false → escape_letter b ≡ None
 unfolding escape_letter
 no_letter b h p q =
     let low : (k : ℕ) → k < 32 → eqb b k ≡ false = λ k l. ne_eqb b k (λ e. omega arith) in
@@ -35,14 +37,14 @@ escaped_plain b e = by_test (leb 32 b) refl (eqb b 34) refl (eqb b 92) refl e
     by_test false p u q v r e = absurd (true≢false (sym e))
 
 -- no letter was found for a byte that is not plain: it is a control character
-pub escaped_control : (b : ℕ) {l : ℕ} → is_plain b ≡ false → l ≡ escape_letter b → l ≤ 0 → escaped b ≡ code_point_escape b
+pub escaped_control : (b : ℕ) → is_plain b ≡ false → escape_letter b ≡ None → escaped b ≡ code_point_escape b
 unfolding escaped is_plain escape_letter
-escaped_control b {l} n e h = rw (← e, le-ltb 0 l h, by_test (leb 32 b) refl (eqb b 34) refl (eqb b 92) refl n (let z : l ≡ 0 = omega arith in sym e ∙ z))
+escaped_control b n e = rw (e, by_test (leb 32 b) refl (eqb b 34) refl (eqb b 92) refl n e)
   where
-    by_test : (t : Bool) → leb 32 b ≡ t → (u : Bool) → eqb b 34 ≡ u → (v : Bool) → eqb b 92 ≡ v → (t && (not u && not v)) ≡ false → escape_letter b ≡ 0 → ltb b 32 ≡ true
+    by_test : (t : Bool) → leb 32 b ≡ t → (u : Bool) → eqb b 34 ≡ u → (v : Bool) → eqb b 92 ≡ v → (t && (not u && not v)) ≡ false → escape_letter b ≡ None → ltb b 32 ≡ true
     by_test false p u q v r e z = lt-ltb b 32 (leb-false 32 b p)
-    by_test true p true q v r e z = let y : ◌≡◌ {A = ℕ} 34 0 = rw q at z in absurd (omega arith)
-    by_test true p false q true r e z = let y : ◌≡◌ {A = ℕ} 92 0 = rw (q, r) at z in absurd (omega arith)
+    by_test true p true q v r e z = absurd (none-some 34 (sym (rw q at z)))
+    by_test true p false q true r e z = absurd (none-some 92 (sym (rw (q, r) at z)))
     by_test true p false q false r e z = absurd (true≢false e)
 
 -- ---- strings
@@ -100,10 +102,3 @@ all_plain_lapped k s h g =
 module _ (block : List ℕ) (plain : Bool) (i : ℕ) (inv : plain ≡ all_plain (take i block)) where
   pub plain_more : (r : Bool) → r ≡ is_plain (get_or block i 0) → i < length block → (plain && r) ≡ all_plain (take (i + 1) block)
   plain_more r e h = rw (add-one, take-suc block i 0, all_plain_snoc, inv, e)
-
-  pub plain_all : length block ≤ i → plain ≡ all_plain block
-  plain_all h = inv ∙ rw (take_all i block h)
-
-pub plain_none : (block : List ℕ) → true ≡ all_plain (take 0 block)
-unfolding all_plain
-plain_none block = refl

@@ -1,11 +1,11 @@
 // The tokens of JSON (RFC 8259): literal names, integers and strings.
-ghost use Rattle.std.specs.Prelude.{◌≡◌, ◌+◌, ◌≤◌, ◌<◌, length, take, drop, [], ◌∷◌};
+ghost use Rattle.std.specs.Prelude.{◌≡◌, ◌+◌, ◌≤◌, ◌<◌, length, ◌∷◌};
 ghost use Rattle.writing.specs.Wrote.{Writes};
 ghost use Rattle.tokens.specs.Literal.{null_name, true_name, false_name};
 ghost use Rattle.tokens.specs.Decimal.{decimal, four_digits, eight_digits};
 ghost use Rattle.tokens.specs.Escape.{escape_letter, hex_digit, code_point_escape, is_plain, all_plain, escaped, escaped_all, quoted};
 
-use writing::write::{bytes_at, put, put_all, put_fitting, put_four};
+use writing::write::{put, put_all, put_fitting, put_four};
 
 pub fn put_null(text: &mut [u8], at: usize) -> usize
     ensures { Writes text.old text.new at result null_name }
@@ -30,10 +30,10 @@ fn put_four_digits(text: &mut [u8], at: usize, n: u32) -> usize
     requires { n < 10000 }
     ensures { Writes text.old text.new at result (four_digits n) }
 {
-    let thousands = 48 + (n / 1000) as u8;
-    let hundreds = 48 + (n / 100 % 10) as u8;
-    let tens = 48 + (n / 10 % 10) as u8;
-    let ones = 48 + (n % 10) as u8;
+    let thousands = b'0' + (n / 1000) as u8;
+    let hundreds = b'0' + (n / 100 % 10) as u8;
+    let tens = b'0' + (n / 10 % 10) as u8;
+    let ones = b'0' + (n % 10) as u8;
     put_four(text, at, thousands, hundreds, tens, ones)
 }
 
@@ -52,10 +52,10 @@ fn put_two(text: &mut [u8], at: usize, n: u32) -> usize
     ensures { Writes text.old text.new at result (decimal n) }
 {
     if n < 10 {
-        return put(text, at, 48 + n as u8);
+        return put(text, at, b'0' + n as u8);
     }
-    let ones = put(text, at, 48 + (n / 10) as u8);
-    put(text, ones, 48 + (n % 10) as u8)
+    let ones = put(text, at, b'0' + (n / 10) as u8);
+    put(text, ones, b'0' + (n % 10) as u8)
 }
 
 // A number of at most four digits.
@@ -68,7 +68,7 @@ fn put_short(text: &mut [u8], at: usize, n: u32) -> usize
     }
     if n < 1000 {
         let ones = put_two(text, at, n / 10);
-        return put(text, ones, 48 + (n % 10) as u8);
+        return put(text, ones, b'0' + (n % 10) as u8);
     }
     put_four_digits(text, at, n)
 }
@@ -101,7 +101,8 @@ fn put_long(text: &mut [u8], at: usize, n: u64) -> usize
     put_eight_digits(text, next, low)
 }
 
-// No loop and no call of itself: a number has at most twenty digits, and from the ninth on they come eight at a time.
+// No loop and no call of itself: a number has at most twenty digits, and from the ninth on they come eight at a time. No formatter of the
+// library stands here, since `Writes` says what is in the buffer also where the digits do not fit.
 pub fn put_natural(text: &mut [u8], at: usize, n: u64) -> usize
     ensures { Writes text.old text.new at result (decimal n) }
 {
@@ -115,34 +116,36 @@ pub fn put_natural(text: &mut [u8], at: usize, n: u64) -> usize
 pub fn put_negative(text: &mut [u8], at: usize, magnitude: u64) -> usize
     ensures { Writes text.old text.new at result (45 ∷ decimal magnitude) }
 {
-    let next = put(text, at, 45);
+    let next = put(text, at, b'-');
     put_natural(text, next, magnitude)
 }
 
-// The letter of a two-character escape, 0 where there is none.
-fn escape_letter(b: u8) -> u8
+// The letter of a two-character escape.
+#[tactic(auto, unfolding(crate::specs::Escape::escape_letter))]
+fn escape_letter(b: u8) -> Option<u8>
     ensures { result ≡ escape_letter b }
 {
     match b {
-        34 => 34,
-        92 => 92,
-        8 => 98,
-        12 => 102,
-        10 => 110,
-        13 => 114,
-        9 => 116,
-        _ => 0,
+        b'"' => Some(b'"'),
+        b'\\' => Some(b'\\'),
+        8 => Some(b'b'),
+        12 => Some(b'f'),
+        b'\n' => Some(b'n'),
+        b'\r' => Some(b'r'),
+        b'\t' => Some(b't'),
+        _ => None,
     }
 }
 
+#[tactic(auto, unfolding(crate::specs::Escape::hex_digit))]
 fn hex_digit(n: u8) -> u8
     requires { n < 16 }
     ensures { result ≡ hex_digit n }
 {
     if n < 10 {
-        return 48 + n;
+        return b'0' + n;
     }
-    87 + n
+    b'a' - 10 + n
 }
 
 // The six characters for a byte: `\u00` and two digits.
@@ -157,10 +160,11 @@ fn put_code_point_escape(text: &mut [u8], at: usize, b: u8) -> usize
 }
 
 // Whether a byte stands for itself in a string.
+#[tactic(auto, unfolding(crate::specs::Escape::is_plain))]
 fn is_plain(b: u8) -> bool
     ensures { result ≡ is_plain b }
 {
-    (32 <= b) & ((b != 34) & (b != 92))
+    (32 <= b) & ((b != b'"') & (b != b'\\'))
 }
 
 // One byte of a string, escaped where JSON asks for it.
@@ -170,12 +174,13 @@ pub fn put_escaped(text: &mut [u8], at: usize, b: u8) -> usize
     if is_plain(b) {
         return put(text, at, b);
     }
-    let letter = escape_letter(b);
-    if 0 < letter {
-        let next = put(text, at, 92);
-        return put(text, next, letter);
+    match escape_letter(b) {
+        Some(letter) => {
+            let next = put(text, at, b'\\');
+            put(text, next, letter)
+        }
+        None => put_code_point_escape(text, at, b),
     }
-    put_code_point_escape(text, at, b)
 }
 
 // The bytes of a string, one by one.
@@ -183,74 +188,54 @@ fn put_each_escaped(text: &mut [u8], at: usize, s: &[u8]) -> usize
     ensures { Writes text.old text.new at result (escaped_all s.now) }
 {
     let mut next = at;
-    for i in 0..s.len() {
-        next = put_escaped(text, next, s[i]);
+    for b in s {
+        next = put_escaped(text, next, *b);
     }
     next
 }
 
-// Sixteen bytes of a string. Read into an array of their own they are known to lie apart from the text, and are written in one step.
-fn block_at(s: &[u8], from: usize) -> [u8; 16]
-    requires { from + 16 ≤ length s.now }
-    ensures { result ≡ take 16 (drop from s.now) }
-{
-    let mut block = [0u8; 16];
-    for i in 0..16 {
-        block[i] = s[from + i];
-    }
-    block
-}
-
 // Whether every byte stands for itself. No byte leaves the loop early, so the compiler makes it take many bytes in a step.
+#[tactic(auto, using(crate::proofs::EscapeLaws::plain_more), unfolding(crate::specs::Escape::all_plain))]
 fn are_plain(s: &[u8]) -> bool
     ensures { result ≡ all_plain s.now }
 {
     let mut plain = true;
-    for i in 0..s.len() {
-        plain = plain & is_plain(s[i]);
+    for b in s {
+        plain &= is_plain(*b);
     }
     plain
 }
 
-// Sixteen bytes of a string at once, where each stands for itself and all of them fit; otherwise one by one.
-fn put_block_escaped(text: &mut [u8], at: usize, s: &[u8], from: usize) -> usize
-    requires { from + 16 ≤ length s.now }
-    ensures { Writes text.old text.new at result (escaped_all (take 16 (drop from s.now))) }
+// Sixteen bytes of a string at once, where each stands for itself and all of them fit; otherwise one by one. By value they are known to
+// lie apart from the text, and are written in one step.
+fn put_block_escaped(text: &mut [u8], at: usize, block: [u8; 16]) -> usize
+    ensures { Writes text.old text.new at result (escaped_all block) }
 {
-    let block = block_at(s, from);
-    if are_plain(&block) {
-        if at < text.len() {
-            if 16 <= text.len() - at {
-                return put_fitting(text, at, &block);
-            }
-        }
+    if are_plain(&block) && at < text.len() && 16 <= text.len() - at {
+        return put_fitting(text, at, &block);
     }
-    let end = from + 16;
-    put_each_escaped(text, at, &s[from..end])
+    put_each_escaped(text, at, &block)
 }
 
-fn are_four_plain(a: u8, b: u8, c: u8, d: u8) -> bool
-    ensures { result ≡ all_plain (a ∷ b ∷ c ∷ d ∷ []) }
+// Whether each of `N` bytes to twice as many stands for itself: the first `N` and the last `N`, whatever they have in common. They are
+// looked at where they are: out of a copy the compiler would take them byte by byte.
+fn are_lapped_plain<const N: usize>(s: &[u8]) -> bool
+    requires { (N ≤ length s.now) × (length s.now ≤ N + N) }
+    ensures { result ≡ all_plain s.now }
 {
-    is_plain(a) & (is_plain(b) & (is_plain(c) & is_plain(d)))
+    are_plain(&s[..N]) & are_plain(&s[s.len() - N..])
 }
 
-// Whether each of at most sixteen bytes stands for itself: the first eight and the last eight, or four and four, whatever they have
-// in common. No loop is left at a byte that nothing foretells.
+// Whether each of at most sixteen bytes stands for itself, by eights or by fours. No loop is left at a byte that nothing foretells.
 fn are_few_plain(s: &[u8]) -> bool
     requires { length s.now ≤ 16 }
     ensures { result ≡ all_plain s.now }
 {
     if 8 <= s.len() {
-        let rest = s.len() - 8;
-        let first = bytes_at::<8>(s, 0);
-        let last = bytes_at::<8>(s, rest);
-        return are_plain(&first) & are_plain(&last);
+        return are_lapped_plain::<8>(s);
     }
     if 4 <= s.len() {
-        let rest = s.len() - 4;
-        let first = are_four_plain(s[0], s[1], s[2], s[3]);
-        return first & are_four_plain(s[rest], s[rest + 1], s[rest + 2], s[rest + 3]);
+        return are_lapped_plain::<4>(s);
     }
     are_plain(s)
 }
@@ -270,19 +255,18 @@ fn put_few_escaped(text: &mut [u8], at: usize, s: &[u8]) -> usize
 fn put_escaped_all(text: &mut [u8], at: usize, s: &[u8]) -> usize
     ensures { Writes text.old text.new at result (escaped_all s.now) }
 {
+    let (blocks, rest) = s.as_chunks::<16>();
     let mut next = at;
-    let mut i = 0;
-    while 16 <= s.len() - i {
-        next = put_block_escaped(text, next, s, i);
-        i += 16;
+    for block in blocks {
+        next = put_block_escaped(text, next, *block);
     }
-    put_few_escaped(text, next, &s[i..])
+    put_few_escaped(text, next, rest)
 }
 
 pub fn put_string(text: &mut [u8], at: usize, s: &[u8]) -> usize
     ensures { Writes text.old text.new at result (quoted s.now) }
 {
-    let inside = put(text, at, 34);
+    let inside = put(text, at, b'"');
     let end = put_escaped_all(text, inside, s);
-    put(text, end, 34)
+    put(text, end, b'"')
 }

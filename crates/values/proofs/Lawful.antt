@@ -2,6 +2,7 @@
 use mathlib.Core.Path.{◌≡◌, sym, ◌∙◌}
 use mathlib.Core.Bool.{Bool, true, false, ◌||◌}
 use mathlib.Core.List.{List}
+use Rattle.std.specs.Prelude.{Some}
 use Prim.Native.Nat.{ℕ, ◌+◌, ◌*◌, ◌≤◌}
 use native.Mathlib.Decide.{dec_le}
 use native.Mathlib.Omega.{arith}
@@ -26,7 +27,6 @@ use Rattle.tables.proofs.Facts.{whole, at_most, rows_lawful_lem, nodes_counted, 
 use Rattle.values.specs.Put.{shape_of, Parted}
 use Rattle.values.specs.Literals.{LiteralsParted}
 use Rattle.values.specs.declared.node.Parts.{Parts}
-use Rattle.values.specs.declared.node.Shape.TheVariants.{Container}
 use Rattle.values.proofs.Nodes.{container_node, shape_container}
 
 later_within : (count row : ℕ) (rows : Range) → later count row rows ≡ true → rows.first + rows.count ≤ count
@@ -34,7 +34,7 @@ later_within count row rows e =
     leb-true (rows.first + rows.count) count (and_right (eqb rows.count 0 || ltb row rows.first) (within count rows) e)
 
 -- a container that obeys the rule on nodes
-parts_there : (pool : List ℕ) (count row : ℕ) (n : Node) (parts : Parts) → node_lawful pool count row n ≡ true → shape_of n ≡ Container parts
+parts_there : (pool : List ℕ) (count row : ℕ) (n : Node) (parts : Parts) → node_lawful pool count row n ≡ true → shape_of n ≡ Some parts
     → parts.rows.first + parts.rows.count ≤ count
 unfolding container_node
 parts_there pool count row n parts h e = go parts.keyed parts.rows (rw (shape_container n parts e) at h)
@@ -60,7 +60,7 @@ module _ (T : Tables) (h : lawful T ≡ true) where
   pub parted : Parted T.nodes
   parted = record { within = λ row parts e. go row parts e (dec_le (node_count T) row) }
     where
-      go : (row : ℕ) (parts : Parts) → shape_of (node_at T.nodes row) ≡ Container parts → Dec (node_count T ≤ row)
+      go : (row : ℕ) (parts : Parts) → shape_of (node_at T.nodes row) ≡ Some parts → Dec (node_count T ≤ row)
           → parts.rows.first + parts.rows.count ≤ most_nodes
       go row parts e (yes l) = let w = rw (past_null row l) at e in absurd (let z : ◌≡◌ {A = ℕ} 0 1 = cc in omega arith)
       go row parts e (no l) =

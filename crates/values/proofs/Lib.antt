@@ -1,11 +1,12 @@
 pub mod Closing
+pub mod Codes
+pub mod Containers
 pub mod Determined
 pub mod Ends
 pub mod Going
 pub mod Insides
 pub mod Labels
 pub mod Lawful
-pub mod LiteralEnds
 pub mod Literals
 pub mod Nodes
 pub mod Parts

@@ -3,6 +3,7 @@
 use mathlib.Core.Path.{◌≡◌, refl}
 use mathlib.Core.Bool.{Bool, true, false}
 use mathlib.Core.List.{List, [], ◌∷◌}
+use Rattle.std.specs.Prelude.{Ok, Err}
 use Prim.Native.Nat.{ℕ, zero, suc, ◌+◌, ◌-◌, ◌≤◌, ◌<◌}
 use native.Mathlib.Omega.{arith}
 use types.Run.{miss}
@@ -20,21 +21,18 @@ use Rattle.rows.specs.contracts.json.Literal.{the_type}
 use Rattle.tokens.specs.Literal.{null_name, true_name, false_name}
 use Rattle.tokens.specs.Decimal.{decimal}
 use Rattle.tokens.specs.Escape.{quoted}
-use Rattle.writing.specs.Wrote.{Writes, Closes}
+use Rattle.writing.specs.Wrote.{Writes}
+use Rattle.codes.specs.declared.outcome.Outcome.TheVariants.{VariableInLiteral}
 use Rattle.graphql.specs.Run.{M, pure, halt}
 use Rattle.graphql.specs.Json.{Json, null, print}
 use Rattle.graphql.specs.Lookup.{rows_in}
 use Rattle.graphql.specs.Values.{parts_of, part_by_part}
-use Rattle.values.specs.Put.{label, left, right, container_of}
-use Rattle.values.specs.Literals.{plain_literal, LiteralsParted, literal_key_text, parts_value, PutsAs, PutsParts, PutsLiteral}
+use Rattle.values.specs.Put.{Put, container_of, contained}
+use Rattle.values.specs.Literals.{plain_literal, LiteralsParted, literal_key_text, parts_value, PutsParts, PutsLiteral}
 use Rattle.values.specs.declared.node.Parts.{Parts}
-use Rattle.values.specs.declared.literal.PutLiteral.{PutLiteral}
-use Rattle.values.specs.declared.literal.PutLiteral.TheVariants.{At, TooFar, Variable}
-use Rattle.values.specs.contracts.literal.PutLiteral as put
 use Rattle.values.proofs.Insides.{insides, literal_is}
-use Rattle.values.proofs.LiteralEnds.{ends_at, ends_too_far, ends_at_variable, came_at, stops, stops_too}
-use Rattle.values.proofs.Parts.{container_full}
-use Rattle.values.proofs.Going.{Going, going_begin, part_written, part_stops, part_long, whole, whole_done, whole_written}
+use Rattle.values.proofs.Ends.{ends_at, ends_stopped}
+use Rattle.values.proofs.Containers.{containing}
 
 -- ---- what is plain
 
@@ -124,28 +122,28 @@ module _ (pool names literals : List ℕ) where
   parts_are : (room : ℕ) (parts : Parts)
       → parts_value pool names literals room parts
       ≡ container_of (literal_key_text pool names literals) room (insides (part_by_part pool names literals) room) parts.keyed (rows_in parts.rows)
-  unfolding parts_value insides
+  unfolding contained insides
   parts_are zero parts = refl
   parts_are (suc room) parts = refl
 
 module _ (pool names literals : List ℕ) (room row : ℕ) {l : Literal} (read : l ≡ literal_at literals row) {text : List ℕ} {at : ℕ} where
-  pub literal_variable : {name : ℕ} → l ≡ literal.Variable name → PutsLiteral pool names literals room row text at Variable text
+  pub literal_variable : {name : ℕ} → l ≡ literal.Variable name → PutsLiteral pool names literals room row text at (Err VariableInLiteral) text
   unfolding parts_of halt
-  literal_variable e = ends_at_variable (λ c. rw (literal_is pool names literals room row, ← read, e)) refl
+  literal_variable e = ends_stopped (λ c. rw (literal_is pool names literals room row, ← read, e)) refl
 
   pub literal_plain : {text' : List ℕ} {end : ℕ} → Among plains (tag_of the_type l) → Writes text text' at end (print (plain_literal pool names l))
-      → PutsLiteral pool names literals room row text at (At end) text'
+      → PutsLiteral pool names literals room row text at (Ok end) text'
   unfolding pure
   literal_plain o w =
       ends_at (plain_literal pool names l) (λ c. rw (literal_is pool names literals room row, ← read, value_plain pool names literals room _ l o)) w
 
-  pub literal_list : {rows : Range} {r : PutLiteral} {text' : List ℕ} → l ≡ literal.List rows
+  pub literal_list : {rows : Range} {r : Put} {text' : List ℕ} → l ≡ literal.List rows
       → PutsParts pool names literals room (record { keyed = false; rows = rows }) text at r text'
       → PutsLiteral pool names literals room row text at r text'
   unfolding parts_of container_of
   literal_list e q = rw (literal_is pool names literals room row, ← read, e) (rw (parts_are pool names literals room _) at q)
 
-  pub literal_object : {rows : Range} {r : PutLiteral} {text' : List ℕ} → l ≡ literal.Object rows
+  pub literal_object : {rows : Range} {r : Put} {text' : List ℕ} → l ≡ literal.Object rows
       → PutsParts pool names literals room (record { keyed = true; rows = rows }) text at r text'
       → PutsLiteral pool names literals room row text at r text'
   unfolding parts_of container_of
@@ -158,68 +156,4 @@ module _ (literals : List ℕ) (row : ℕ) {l : Literal} (read : l ≡ literal_a
   pub object_within : l ≡ literal.Object rows → rows.first + rows.count ≤ most_literals
   object_within e = p.of_object row rows (rw read at e)
 
--- ---- a container, at the definition
-
-module _ (key : ℕ → List ℕ) (inside : ℕ → M Json) (keyed : Bool) (first count : ℕ) (text₀ : List ℕ) (at : ℕ) where
-  pub parts_again : {text text1 text2 : List ℕ} {next value i : ℕ} {r : PutLiteral} {end : ℕ}
-      → Going key inside keyed first count text₀ at text next i → i < count
-      → Writes text text1 next value (label keyed (key (first + i))) → PutsAs (inside (first + i)) text1 value r text2 → r ≡ At end
-      → Going key inside keyed first count text₀ at text2 end (i + 1)
-  parts_again g l w q e = let v = came_at q e in part_written key inside keyed first count text₀ at g l w v.0 v.1 v.2
-
-module _ (pool names literals : List ℕ) (room : ℕ) (parts : Parts) where
-  pub parts_none : {text : List ℕ} {at : ℕ} → room ≡ 0 → PutsParts pool names literals room parts text at TooFar text
-  unfolding parts_value
-  parts_none z = rw z (ends_too_far (λ c. container_full (literal_key_text pool names literals) _ parts.keyed (rows_in parts.rows) c) refl)
-
-  -- the values of the parts, in which one container less may be open
-  abbrev inside : ℕ → M Json
-  inside = part_by_part pool names literals (room - 1)
-
-  abbrev key : ℕ → List ℕ
-  key = literal_key_text pool names literals
-
-  opens : (room ≡ 0 → ⊥) → parts_value pool names literals room parts ≡ container_of key (suc (room - 1)) inside parts.keyed (rows_in parts.rows)
-  unfolding parts_value
-  opens z = go room z
-    where
-      go : (n : ℕ) → (n ≡ 0 → ⊥) → parts_value pool names literals n parts
-          ≡ container_of key (suc (n - 1)) (part_by_part pool names literals (n - 1)) parts.keyed (rows_in parts.rows)
-      go zero h = absurd (h refl)
-      go (suc n) h = let e : suc n - 1 ≡ n = omega arith in rw e
-
-  module _ (z : room ≡ 0 → ⊥) {text₀ text text2 : List ℕ} {at next i : ℕ}
-      (g : Going key inside parts.keyed parts.rows.first parts.rows.count text₀ at text next i) where
-    pub parts_stopped : {text1 : List ℕ} {value : ℕ} {r : PutLiteral} → i < parts.rows.count
-        → Writes text text1 next value (label parts.keyed (key (parts.rows.first + i)))
-        → PutsLiteral pool names literals (room - 1) (parts.rows.first + i) text1 value r text2
-        → Among stops (tag_of put.the_type r) → PutsParts pool names literals room parts text₀ at r text2
-    unfolding rows_in
-    parts_stopped l w q o =
-        rw (opens z)
-        (stops_too q o (part_long key inside parts.keyed _ _ text₀ at g l w)
-        (λ s e. part_stops key inside parts.keyed _ _ text₀ at g l w (room - 1) e))
-
-    pub parts_ended : {end : ℕ} → parts.rows.count ≤ i → Closes (left parts.keyed) (right parts.keyed) text at next text2 end
-        → PutsParts pool names literals room parts text₀ at (At end) text2
-    unfolding rows_in
-    parts_ended l q =
-        rw (opens z)
-        (ends_at (whole key inside parts.keyed _ _ text₀ at g l)
-        (whole_done key inside parts.keyed _ _ text₀ at g l (room - 1))
-        (whole_written key inside parts.keyed _ _ text₀ at g l q))
-
-pub ruleset walking = (
-  literal_plain,
-  literal_list,
-  literal_object,
-  literal_variable,
-  list_within,
-  object_within,
-  parts_none,
-  going_begin,
-  parts_again,
-  parts_stopped,
-  parts_ended,
-  shut,
-)
+pub ruleset walking = (literal_plain, literal_list, literal_object, literal_variable, list_within, object_within, containing, shut)

@@ -2,6 +2,7 @@
 use mathlib.Core.Path.{◌≡◌, refl}
 use mathlib.Core.Bool.{Bool, true, false}
 use mathlib.Core.List.{List, [], ◌∷◌}
+use Rattle.std.specs.Prelude.{Some, None}
 use Prim.Native.Nat.{ℕ, ◌+◌, ◌*◌}
 use native.Mathlib.Omega.{arith}
 use types.Run.{miss}
@@ -21,7 +22,6 @@ use Rattle.graphql.specs.Json.{null, print}
 use Rattle.values.specs.Plain.{plain_value}
 use Rattle.values.specs.Put.{shape_of}
 use Rattle.values.specs.declared.node.Parts.{Parts}
-use Rattle.values.specs.declared.node.Shape.TheVariants.{Plain, Container}
 
 -- ---- what is plain
 
@@ -77,28 +77,12 @@ pub ruleset plain = (puts_false, puts_true, puts_natural, puts_negative, puts_fl
 
 -- ---- containers
 
--- the numbers of the variants that are no containers
-abbrev plains : List ℕ
-plains = 0 ∷ 1 ∷ 2 ∷ 3 ∷ 4 ∷ 5 ∷ 6 ∷ 9 ∷ []
-
-pub shape_plain : (n : Node) → Among plains (tag_of the_type n) → Plain ≡ shape_of n
-shape_plain node.Null o = refl
-shape_plain node.False o = refl
-shape_plain node.True o = refl
-shape_plain (node.Natural low high) o = refl
-shape_plain (node.Negative low high) o = refl
-shape_plain (node.Float text) o = refl
-shape_plain (node.String text) o = refl
-shape_plain (node.Array rows) o = absurd (miss plains 7 tt (opened o))
-shape_plain (node.Object rows) o = absurd (miss plains 8 tt (opened o))
-shape_plain node.Unknown o = refl
-
 -- a container is an array or an object
 unfoldable pub container_node : (keyed : Bool) → Range → Node
 container_node false rows = node.Array rows
 container_node true rows = node.Object rows
 
-pub shape_container : (n : Node) (parts : Parts) → shape_of n ≡ Container parts → n ≡ container_node parts.keyed parts.rows
+pub shape_container : (n : Node) (parts : Parts) → shape_of n ≡ Some parts → n ≡ container_node parts.keyed parts.rows
 unfolding container_node
 shape_container node.Null parts e = absurd (let z : ◌≡◌ {A = ℕ} 0 1 = cc in omega arith)
 shape_container node.False parts e = absurd (let z : ◌≡◌ {A = ℕ} 0 1 = cc in omega arith)

@@ -1,5 +1,6 @@
 -- What the functions that read and write a literal ensure, by the definition of its conversion part by part.
 use Rattle.std.specs.Prelude.{◌≡◌, true, false, List, ℕ, zero, suc, ◌+◌, ◌≤◌, length}
+use Rattle.std.specs.Prelude.{Ok}
 use Rattle.rows.specs.Limits.{most_literals}
 use Rattle.rows.specs.Strings.{text_of}
 use Rattle.rows.specs.Names.{name_text}
@@ -7,17 +8,12 @@ use Rattle.rows.specs.Json.{literal_at, literal_key}
 use Rattle.rows.specs.declared.layout.Range.{Range}
 use Rattle.rows.specs.declared.json.Literal.{Literal}
 use Rattle.rows.specs.declared.json.Literal.TheVariants as literal
-use Rattle.writing.specs.Wrote.{Writes}
-use Rattle.codes.specs.Outcome.{too_far, variable_in_literal}
-use Rattle.graphql.specs.Run.{Log, Choices, M, done, pure, halt}
-use Rattle.graphql.specs.Json.{Json, null, bool, natural, negative, float, string, print, sort_of}
+use Rattle.graphql.specs.Run.{Log, Choices, M, done}
+use Rattle.graphql.specs.Json.{Json, null, bool, natural, negative, float, string, sort_of}
 use Rattle.graphql.specs.Json as defined
-use Rattle.graphql.specs.Lookup.{rows_in}
 use Rattle.graphql.specs.Values.{part_by_part}
-use Rattle.values.specs.Put.{container_of}
+use Rattle.values.specs.Put.{Put, Puts, contained}
 use Rattle.values.specs.declared.node.Parts.{Parts}
-use Rattle.values.specs.declared.literal.PutLiteral.{PutLiteral}
-use Rattle.values.specs.declared.literal.PutLiteral.TheVariants.{At, TooFar, Variable}
 
 -- the value of a literal that is no container and no variable; null for those, of which it is not asked
 unfoldable pub plain_literal : (pool names : List ℕ) → Literal → Json
@@ -61,60 +57,25 @@ pub record LiteralsParted (literals : List ℕ) : Type 0 where
   pub of_list : (row : ℕ) (rows : Range) → literal_at literals row ≡ literal.List rows → rows.first + rows.count ≤ most_literals
   pub of_object : (row : ℕ) (rows : Range) → literal_at literals row ≡ literal.Object rows → rows.first + rows.count ≤ most_literals
 
--- ---- A value that was written
-
--- how a literal's value ends: it is there, it is too far, or a variable was reached; nothing is logged, and no choice is read
-pub data Ending : Type 0 where
-  there : Json → Ending
-  far : Ending
-  variable : Ending
-
-unfoldable pub ended_as : Ending → M Json
-ended_as (there j) = pure j
-ended_as far = halt too_far
-ended_as variable = halt variable_in_literal
-
--- the text of the value was written from `at` on, and the position is the one after it
-pub record PutsLiteralText (j : Json) (before : List ℕ) (at : ℕ) (r : PutLiteral) (after : List ℕ) : Type 0 where
-  pub end : ℕ
-  pub is : r ≡ At end
-  pub writes : Writes before after at end (print j)
-
--- it was given up: the buffer is as long as it was, and what stands in it is nobody's
-pub record GaveUpAs (why : PutLiteral) (before : List ℕ) (r : PutLiteral) (after : List ℕ) : Type 0 where
-  pub is : r ≡ why
-  pub long : length after ≡ length before
-
-abbrev pub EndsAs : Ending → (before : List ℕ) (at : ℕ) (r : PutLiteral) (after : List ℕ) → Type 0
-EndsAs (there j) before at r after = PutsLiteralText j before at r after
-EndsAs far before at r after = GaveUpAs TooFar before r after
-EndsAs variable before at r after = GaveUpAs Variable before r after
-
--- what a call came to that was to write the value of `m`
-pub record PutsAs (m : M Json) (before : List ℕ) (at : ℕ) (r : PutLiteral) (after : List ℕ) : Type 0 where
-  pub ending : Ending
-  pub is : (c : Choices) → m c ≡ ended_as ending c
-  pub put : EndsAs ending before at r after
+-- ---- A literal that was written
 
 module _ (pool names literals : List ℕ) where
   -- the bytes of a part's key
   abbrev pub literal_key_text : ℕ → List ℕ
   literal_key_text row = name_text pool names (literal_key literals row)
 
-  unfoldable pub parts_value : (room : ℕ) → Parts → M Json
-  parts_value zero parts = container_of literal_key_text zero (λ part. halt too_far) parts.keyed (rows_in parts.rows)
-  parts_value (suc room) parts =
-      container_of literal_key_text (suc room) (λ part. part_by_part pool names literals room part) parts.keyed (rows_in parts.rows)
+  abbrev pub parts_value : (room : ℕ) → Parts → M Json
+  parts_value room parts = contained literal_key_text (part_by_part pool names literals) room parts
 
-  abbrev pub PutsParts : (room : ℕ) → Parts → (before : List ℕ) (at : ℕ) (r : PutLiteral) (after : List ℕ) → Type 0
-  PutsParts room parts before at r after = PutsAs (parts_value room parts) before at r after
+  abbrev pub PutsParts : (room : ℕ) → Parts → (before : List ℕ) (at : ℕ) (r : Put) (after : List ℕ) → Type 0
+  PutsParts room parts before at r after = Puts (parts_value room parts) before at r after
 
-  abbrev pub PutsLiteral : (room row : ℕ) (before : List ℕ) (at : ℕ) (r : PutLiteral) (after : List ℕ) → Type 0
-  PutsLiteral room row before at r after = PutsAs (part_by_part pool names literals room row) before at r after
+  abbrev pub PutsLiteral : (room row : ℕ) (before : List ℕ) (at : ℕ) (r : Put) (after : List ℕ) → Type 0
+  PutsLiteral room row before at r after = Puts (part_by_part pool names literals room row) before at r after
 
 -- Two results that the contract allows are equal, and so are the buffers where the value is there; where it is not they are as long as each other.
 abbrev pub PutLiteralDetermined : Type 0
 PutLiteralDetermined =
-    (pool names literals : List ℕ) (room row : ℕ) (before : List ℕ) (at : ℕ) (r r' : PutLiteral) (after after' : List ℕ)
+    (pool names literals : List ℕ) (room row : ℕ) (before : List ℕ) (at : ℕ) (r r' : Put) (after after' : List ℕ)
     → PutsLiteral pool names literals room row before at r after → PutsLiteral pool names literals room row before at r' after'
-    → (r ≡ r') × (length after ≡ length after') × ((end : ℕ) → r ≡ At end → after ≡ after')
+    → (r ≡ r') × (length after ≡ length after') × ((end : ℕ) → r ≡ Ok end → after ≡ after')

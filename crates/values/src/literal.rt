@@ -1,90 +1,65 @@
 // A literal converted part by part, as text: "enum names to strings". `room` is how many containers may still be opened.
 ghost use Rattle.std.specs.Prelude.{◌≡◌, ◌+◌, ◌≤◌};
+ghost use Rattle.std.specs.Option.{option_copied};
 ghost use Rattle.rows.specs.Limits.{most_literals};
 ghost use Rattle.writing.specs.Wrote.{Writes};
 ghost use Rattle.graphql.specs.Json.{print};
-ghost use Rattle.values.specs.Put.{label};
+ghost use Rattle.values.specs.Put.{key_of};
 ghost use Rattle.values.specs.Literals.{plain_literal, literal_key_text, LiteralsParted, PutsParts, PutsLiteral};
+ghost use Rattle.tables.specs.Tables.{lent};
 
-use crate::node::{Parts, put_brackets};
+use crate::node::{Parts, put_brackets, put_label};
+use codes::outcome::Outcome;
 use rows::json::{Literal, literal_at, literal_key};
 use rows::names::name_text;
 use rows::strings::text_of;
+use rows::tables::Tables;
 use tokens::json::{put_false, put_natural, put_negative, put_null, put_string, put_true};
-use writing::write::{put, put_all};
-
-// The position after a literal's text; or a container more would be open than there is room for; or a variable was reached.
-#[derive(Clone, Copy)]
-pub enum PutLiteral {
-    At(usize),
-    TooFar,
-    Variable,
-}
+use writing::write::put_all;
 
 // A literal that is no container and no variable.
-fn put_plain_literal(
-    pool: &[u8],
-    names: &[u32],
-    text: &mut [u8],
-    at: usize,
-    literal: Literal,
-) -> usize
-    ensures { Writes text.old text.new at result (print (plain_literal pool.now names.now literal)) }
+fn put_plain_literal(tables: &Tables, text: &mut [u8], at: usize, literal: Literal) -> usize
+    ensures { let t = lent tables.now in Writes text.old text.new at result (print (plain_literal t.pool t.names literal)) }
 {
     match literal {
         Literal::False => put_false(text, at),
         Literal::True => put_true(text, at),
         Literal::Natural(n) => put_natural(text, at, n as u64),
         Literal::Negative(n) => put_negative(text, at, n as u64),
-        Literal::Float(spelling) => put_all(text, at, text_of(pool, spelling)),
-        Literal::String(string) => put_string(text, at, text_of(pool, string)),
-        Literal::Enum(name) => put_string(text, at, name_text(pool, names, name)),
+        Literal::Float(spelling) => put_all(text, at, text_of(tables.pool, spelling)),
+        Literal::String(string) => put_string(text, at, text_of(tables.pool, string)),
+        Literal::Enum(name) => put_string(text, at, name_text(tables.pool, tables.names, name)),
         _ => put_null(text, at),
     }
 }
 
-// What stands before the value of a part: a comma; in an object its key and a colon too.
-fn put_literal_label(
-    pool: &[u8],
-    names: &[u32],
-    literals: &[u32],
-    text: &mut [u8],
-    at: usize,
-    keyed: bool,
-    row: u32,
-) -> usize
-    ensures { Writes text.old text.new at result
-        (label keyed (literal_key_text pool.now names.now literals.now row)) }
+// The key of a part of an object; a part of a list has none.
+fn part_key<'a>(tables: &Tables<'a>, keyed: bool, row: u32) -> Option<&'a [u8]>
+    ensures { let t = lent tables.now in option_copied result ≡ key_of keyed (literal_key_text t.pool t.names t.literals row) }
 {
-    let next = put(text, at, b',');
     if keyed {
-        let end = put_string(
-            text,
-            next,
-            name_text(pool, names, literal_key(literals, row)),
-        );
-        return put(text, end, b':');
+        return Some(name_text(tables.pool, tables.names, literal_key(tables.literals, row)));
     }
-    next
+    None
 }
 
-#[cycle(put_literal_put_parts)]
+// The position after the text; or a container more would be open than there is room for, or a variable was reached.
+// The loop is that of `put_container`: a trait over both would need a key, a value and the laws of each, which is more than it saves.
+#[cycle(literals)]
 fn put_parts(
-    pool: &[u8],
-    names: &[u32],
-    literals: &[u32],
+    tables: &Tables,
     text: &mut [u8],
     at: usize,
     room: u32,
     parts: Parts,
-) -> PutLiteral
-    requires literals_parted { LiteralsParted literals.now }
+) -> Result<usize, Outcome>
+    requires literals_parted { let t = lent tables.now in LiteralsParted t.literals }
     requires count_bound { parts.rows.first + parts.rows.count ≤ most_literals }
-    ensures { PutsParts pool.now names.now literals.now room parts
+    ensures { let t = lent tables.now in PutsParts t.pool t.names t.literals room parts
         text.old at result text.new }
 {
     if room == 0 {
-        return PutLiteral::TooFar;
+        return Err(Outcome::TooFar);
     }
     let keyed = parts.keyed;
     let rows = parts.rows;
@@ -93,48 +68,36 @@ fn put_parts(
     let mut next = at;
     for i in 0..count {
         let row = first + i;
-        let value = put_literal_label(pool, names, literals, text, next, keyed, row);
-        let written = put_literal(pool, names, literals, text, value, room - 1, row);
-        let PutLiteral::At(end) = written else {
-            return written;
-        };
-        next = end;
+        let value = put_label(text, next, part_key(tables, keyed, row));
+        next = put_literal(tables, text, value, room - 1, row)?;
     }
-    PutLiteral::At(put_brackets(text, at, next, keyed))
+    Ok(put_brackets(text, at, next, keyed))
 }
 
 // What was written before it was given up is nobody's.
-#[cycle(put_literal_put_parts)]
+#[cycle(literals)]
 pub fn put_literal(
-    pool: &[u8],
-    names: &[u32],
-    literals: &[u32],
+    tables: &Tables,
     text: &mut [u8],
     at: usize,
     room: u32,
     row: u32,
-) -> PutLiteral
-    requires { LiteralsParted literals.now }
-    ensures { PutsLiteral pool.now names.now literals.now room row
+) -> Result<usize, Outcome>
+    requires { let t = lent tables.now in LiteralsParted t.literals }
+    ensures { let t = lent tables.now in PutsLiteral t.pool t.names t.literals room row
         text.old at result text.new }
 {
-    let literal = literal_at(literals, row);
+    let literal = literal_at(tables.literals, row);
     match literal {
         Literal::List(rows) => {
-            let parts = Parts {
-                keyed: false,
-                rows: rows,
-            };
-            put_parts(pool, names, literals, text, at, room, parts)
+            let parts = Parts { keyed: false, rows };
+            put_parts(tables, text, at, room, parts)
         }
         Literal::Object(rows) => {
-            let parts = Parts {
-                keyed: true,
-                rows: rows,
-            };
-            put_parts(pool, names, literals, text, at, room, parts)
+            let parts = Parts { keyed: true, rows };
+            put_parts(tables, text, at, room, parts)
         }
-        Literal::Variable(_) => PutLiteral::Variable,
-        _ => PutLiteral::At(put_plain_literal(pool, names, text, at, literal)),
+        Literal::Variable(_) => Err(Outcome::VariableInLiteral),
+        _ => Ok(put_plain_literal(tables, text, at, literal)),
     }
 }

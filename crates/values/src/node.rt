@@ -1,23 +1,20 @@
 // A node's text, its containers one in another. `room` is how many containers may still be opened.
 ghost use Rattle.std.specs.Prelude.{◌≡◌, ◌+◌, ◌≤◌};
+ghost use Rattle.std.specs.Option.{option_copied};
 ghost use Rattle.rows.specs.Limits.{most_nodes};
 ghost use Rattle.writing.specs.Wrote.{Writes, Closes};
-ghost use Rattle.values.specs.Put.{shape_of, label, key_text, left, right, Parted, PutsContainer, PutsNode};
+ghost use Rattle.values.specs.Put.{shape_of, label_of, key_of, key_text, left, right, Parted, PutsContainer, PutsNode};
+ghost use Rattle.tables.specs.Tables.{lent};
 
 use crate::plain::put_plain;
+use codes::outcome::Outcome;
 use rows::json::{Node, node_at, node_key};
 use rows::layout::Range;
 use rows::strings::text_of;
+use rows::tables::Tables;
 use tokens::json::put_string;
 use writing::place::close;
 use writing::write::put;
-
-// The position after a node's text; or a container more would be open than there is room for.
-#[derive(Clone, Copy)]
-pub enum Put {
-    At(usize),
-    TooFar,
-}
 
 // The parts of an object have keys, those of an array have none.
 #[derive(Clone, Copy)]
@@ -26,38 +23,37 @@ pub struct Parts {
     pub rows: Range,
 }
 
-#[derive(Clone, Copy)]
-pub enum Shape {
-    Plain,
-    Container(Parts),
-}
-
-fn shape_of(node: Node) -> Shape
+// The parts of a container; any other node has none.
+fn shape_of(node: Node) -> Option<Parts>
     ensures { result ≡ shape_of node }
 {
     match node {
-        Node::Array(rows) => Shape::Container(Parts {
-            keyed: false,
-            rows: rows,
-        }),
-        Node::Object(rows) => Shape::Container(Parts {
-            keyed: true,
-            rows: rows,
-        }),
-        _ => Shape::Plain,
+        Node::Array(rows) => Some(Parts { keyed: false, rows }),
+        Node::Object(rows) => Some(Parts { keyed: true, rows }),
+        _ => None,
     }
 }
 
-// What stands before the value of a part: a comma; in an object its key and a colon too.
-fn put_label(pool: &[u8], nodes: &[u32], text: &mut [u8], at: usize, keyed: bool, row: u32) -> usize
-    ensures { Writes text.old text.new at result (label keyed (key_text pool.now nodes.now row)) }
+// The key of a part of an object; a part of an array has none.
+fn part_key<'a>(tables: &Tables<'a>, keyed: bool, row: u32) -> Option<&'a [u8]>
+    ensures { let t = lent tables.now in option_copied result ≡ key_of keyed (key_text t.pool t.nodes row) }
+{
+    if keyed {
+        return Some(text_of(tables.pool, node_key(tables.nodes, row as usize)));
+    }
+    None
+}
+
+// What stands before the value of a part: a comma, and its key and a colon if it has one.
+pub fn put_label(text: &mut [u8], at: usize, key: Option<&[u8]>) -> usize
+    ensures { Writes text.old text.new at result (label_of (option_copied key.entry)) }
 {
     let next = put(text, at, b',');
-    if keyed {
-        let end = put_string(text, next, text_of(pool, node_key(nodes, row as usize)));
-        return put(text, end, b':');
-    }
-    next
+    let Some(key) = key else {
+        return next;
+    };
+    let end = put_string(text, next, key);
+    put(text, end, b':')
 }
 
 // The parts that were written from `start` to `at`, each with its label, get their brackets.
@@ -70,21 +66,21 @@ pub fn put_brackets(text: &mut [u8], start: usize, at: usize, keyed: bool) -> us
     close(text, start, at, b'[', b']')
 }
 
-#[cycle(put_container_put_node)]
+// The position after the text; or a container more would be open than there is room for.
+#[cycle(nodes)]
 fn put_container(
-    pool: &[u8],
-    nodes: &[u32],
+    tables: &Tables,
     text: &mut [u8],
     at: usize,
     room: u32,
     parts: Parts,
-) -> Put
-    requires parted { Parted nodes.now }
+) -> Result<usize, Outcome>
+    requires parted { let t = lent tables.now in Parted t.nodes }
     requires count_bound { parts.rows.first + parts.rows.count ≤ most_nodes }
-    ensures { PutsContainer pool.now nodes.now room parts text.old at result text.new }
+    ensures { let t = lent tables.now in PutsContainer t.pool t.nodes room parts text.old at result text.new }
 {
     if room == 0 {
-        return Put::TooFar;
+        return Err(Outcome::TooFar);
     }
     let keyed = parts.keyed;
     let rows = parts.rows;
@@ -93,26 +89,27 @@ fn put_container(
     let mut next = at;
     for i in 0..count {
         let row = first + i;
-        let value = put_label(pool, nodes, text, next, keyed, row);
-        let written = put_node(pool, nodes, text, value, room - 1, row);
-        let Put::At(end) = written else {
-            return Put::TooFar;
-        };
-        next = end;
+        let value = put_label(text, next, part_key(tables, keyed, row));
+        next = put_node(tables, text, value, room - 1, row)?;
     }
-    Put::At(put_brackets(text, at, next, keyed))
+    Ok(put_brackets(text, at, next, keyed))
 }
 
 // What was written before it was too far is nobody's.
-#[cycle(put_container_put_node)]
-pub fn put_node(pool: &[u8], nodes: &[u32], text: &mut [u8], at: usize, room: u32, row: u32) -> Put
-    requires { Parted nodes.now }
-    ensures { PutsNode pool.now nodes.now room row text.old at result text.new }
+#[cycle(nodes)]
+pub fn put_node(
+    tables: &Tables,
+    text: &mut [u8],
+    at: usize,
+    room: u32,
+    row: u32,
+) -> Result<usize, Outcome>
+    requires { let t = lent tables.now in Parted t.nodes }
+    ensures { let t = lent tables.now in PutsNode t.pool t.nodes room row text.old at result text.new }
 {
-    let node = node_at(nodes, row);
-    let shape = shape_of(node);
-    let Shape::Container(parts) = shape else {
-        return Put::At(put_plain(pool, text, at, node));
+    let node = node_at(tables.nodes, row);
+    let Some(parts) = shape_of(node) else {
+        return Ok(put_plain(tables.pool, text, at, node));
     };
-    put_container(pool, nodes, text, at, room, parts)
+    put_container(tables, text, at, room, parts)
 }

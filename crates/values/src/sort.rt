@@ -9,7 +9,7 @@ use crate::plain::integer;
 use rows::json::{Literal, Node, literal_at, node_at};
 
 // An integer that fits 32 bits, signed, is an int; another that fits 64 bits, signed, a long; and a larger one is huge.
-#[derive(Clone, Copy)]
+#[derive(Clone, Copy, PartialEq, Eq, Debug)]
 pub enum Sort {
     Null,
     Boolean,
@@ -48,50 +48,47 @@ fn sort_of_negative(magnitude: u64) -> Sort
     Sort::Long
 }
 
-pub fn sort_of_node(node: Node) -> Sort
-    ensures { result ≡ said (node_sort node) }
-{
-    match node {
-        Node::Null => Sort::Null,
-        Node::False => Sort::Boolean,
-        Node::True => Sort::Boolean,
-        Node::Natural { low, high } => sort_of_natural(integer(low, high)),
-        Node::Negative { low, high } => sort_of_negative(integer(low, high)),
-        Node::Float(_) => Sort::Float,
-        Node::String(_) => Sort::String,
-        Node::Array(_) => Sort::Container,
-        Node::Object(_) => Sort::Container,
-        Node::Unknown => Sort::Null,
+impl From<Node> for Sort {
+    ghost from_gives = { λ node sort. sort ≡ said (node_sort node) };
+
+    fn from(node: Node) -> Sort {
+        match node {
+            Node::Null | Node::Unknown => Sort::Null,
+            Node::False | Node::True => Sort::Boolean,
+            Node::Natural { low, high } => sort_of_natural(integer(low, high)),
+            Node::Negative { low, high } => sort_of_negative(integer(low, high)),
+            Node::Float(_) => Sort::Float,
+            Node::String(_) => Sort::String,
+            Node::Array(_) | Node::Object(_) => Sort::Container,
+        }
     }
 }
 
 pub fn sort_of(nodes: &[u32], row: u32) -> Sort
     ensures { result ≡ said (node_sort (node_at nodes.now row)) }
 {
-    sort_of_node(node_at(nodes, row))
+    Sort::from(node_at(nodes, row))
 }
 
-pub fn sort_of_literal(literal: Literal) -> Sort
-    ensures { result ≡ said (literal_sort literal) }
-{
-    match literal {
-        Literal::Null => Sort::Null,
-        Literal::False => Sort::Boolean,
-        Literal::True => Sort::Boolean,
-        Literal::Natural(n) => sort_of_natural(n as u64),
-        Literal::Negative(n) => sort_of_negative(n as u64),
-        Literal::Float(_) => Sort::Float,
-        Literal::String(_) => Sort::String,
-        Literal::List(_) => Sort::Container,
-        Literal::Object(_) => Sort::Container,
-        Literal::Enum(_) => Sort::String,
-        Literal::Variable(_) => Sort::Null,
-        Literal::Unknown => Sort::Null,
+// A variable has no sort here: null.
+impl From<Literal> for Sort {
+    ghost from_gives = { λ literal sort. sort ≡ said (literal_sort literal) };
+
+    fn from(literal: Literal) -> Sort {
+        match literal {
+            Literal::Null | Literal::Variable(_) | Literal::Unknown => Sort::Null,
+            Literal::False | Literal::True => Sort::Boolean,
+            Literal::Natural(n) => sort_of_natural(n as u64),
+            Literal::Negative(n) => sort_of_negative(n as u64),
+            Literal::Float(_) => Sort::Float,
+            Literal::String(_) | Literal::Enum(_) => Sort::String,
+            Literal::List(_) | Literal::Object(_) => Sort::Container,
+        }
     }
 }
 
 pub fn literal_sort(literals: &[u32], row: u32) -> Sort
     ensures { result ≡ said (literal_sort (literal_at literals.now row)) }
 {
-    sort_of_literal(literal_at(literals, row))
+    Sort::from(literal_at(literals, row))
 }

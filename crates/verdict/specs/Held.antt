@@ -1,6 +1,7 @@
 -- The tables that a table file's pool and words hold.
 use Rattle.std.specs.Prelude.{ℕ, List}
 use Rattle.table_file.specs.Held.{pool_of, table_of, root_of}
+use Rattle.table_file.specs.declared.held.Held.{Held}
 use Rattle.tables.specs.Tables.{Tables, tables}
 
 unfoldable pub held : List ℕ → List ℕ → List ℕ → Tables
@@ -22,3 +23,7 @@ held pool words sizes =
     (table_of words sizes 13)
     (table_of words sizes 14)
     (root_of words sizes)
+
+-- the same of them lent together
+abbrev pub tables_held : Held → Tables
+tables_held h = held h.pool.now h.words.now h.sizes

@@ -1,14 +1,13 @@
 // The text of a file, as far as it has room.
-ghost use Rattle.std.specs.Prelude.{◌≡◌, ◌≤◌, length, take, replicate};
+ghost use Rattle.std.specs.Prelude.{◌≡◌, ◌≤◌, length, take, replicate, IfOk};
 
 use std::io::Read;
 use std::rt::Files;
 use std::{fs, str};
 
-// Why a file's text is not read. `Fine` says that it is.
-#[derive(Clone, Copy)]
+// Why a file's text is not read.
+#[derive(Clone, Copy, PartialEq, Eq, Debug)]
 pub enum Fault {
-    Fine,
     CannotBeOpened,
     CannotBeRead,
     TooLarge,
@@ -18,12 +17,6 @@ pub enum Fault {
 pub const ROOM: usize = 1048576;
 
 pub type Room = [u8; ROOM];
-
-#[derive(Clone, Copy)]
-pub struct Text {
-    pub length: usize,
-    pub fault: Fault,
-}
 
 pub fn new_text() -> Room
     ensures { result ≡ replicate 1048576 0 }
@@ -37,62 +30,39 @@ fn read_full(file: &mut impl Read, text: &mut [u8]) -> usize
 {
     let mut done = 0;
     while done < text.len() {
-        let Ok(n) = file.read(&mut text[done..]) else {
-            return done;
-        };
-        if n == 0 {
-            return done;
+        match file.read(&mut text[done..]) {
+            Ok(0) | Err(_) => break,
+            Ok(n) => done += n,
         }
-        done += n;
     }
     done
 }
 
 // What one more read says, after so many bytes of a file came: the end of the file, more than
 // there is room for, or a failure, as of a folder.
-fn fault_at_end(file: &mut impl Read, length: usize, room: usize) -> Fault {
+fn check_end(file: &mut impl Read, length: usize, room: usize) -> Result<(), Fault> {
     let mut one = [0u8; 1];
-    let Ok(got) = file.read(&mut one) else {
-        return Fault::CannotBeRead;
-    };
-    if got == 0 {
-        return Fault::Fine;
+    match file.read(&mut one) {
+        Ok(0) => Ok(()),
+        Ok(_) if length == room => Err(Fault::TooLarge),
+        _ => Err(Fault::CannotBeRead),
     }
-    if length == room {
-        return Fault::TooLarge;
-    }
-    Fault::CannotBeRead
 }
 
-// Puts the file's bytes at the start of text. A path is UTF-8.
-pub fn read_text(files: &impl Files, path: &[u8], text: &mut Room) -> Text
-    ensures { result.length ≤ 1048576 }
+// Puts the file's bytes at the start of text, and gives how many they are. A path is UTF-8.
+pub fn read_text(files: &impl Files, path: &[u8], text: &mut Room) -> Result<usize, Fault>
+    ensures { IfOk result (λ n. n ≤ 1048576) }
 {
-    let unopened = Text {
-        length: 0,
-        fault: Fault::CannotBeOpened,
-    };
-    let Ok(name) = str::from_utf8(path) else {
-        return unopened;
-    };
-    let Ok(mut file) = fs::open(files, name) else {
-        return unopened;
-    };
+    let name = str::from_utf8(path).map_err(|_| Fault::CannotBeOpened)?;
+    let mut file = fs::open(files, name).map_err(|_| Fault::CannotBeOpened)?;
     let length = read_full(&mut file, text);
-    let fault = fault_at_end(&mut file, length, ROOM);
-    Text {
-        length: length,
-        fault: fault,
-    }
+    check_end(&mut file, length, ROOM)?;
+    Ok(length)
 }
 
 // The first bytes of text, as many as were read.
 pub fn bytes(text: &Room, length: usize) -> &[u8]
     ensures { length ≤ 1048576 → result.now ≡ take length text.now }
 {
-    let all: &[u8] = text;
-    if length > ROOM {
-        return &all[..0];
-    }
-    &all[..length]
+    text.get(..length).unwrap_or(&[])
 }

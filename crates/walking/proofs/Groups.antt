@@ -14,7 +14,7 @@ use Rattle.walking.specs.declared.state.State.{State}
 use Rattle.walking.specs.declared.state.Kind.{Kind}
 use Rattle.walking.specs.declared.state.Kind.TheVariants as kind
 use Rattle.walking.specs.declared.state.Failure.{Failure}
-use Rattle.walking.specs.declared.state.Completed.TheVariants.{Placed, Fails}
+use Rattle.std.specs.Prelude.{Ok, Err}
 use Rattle.walking.specs.declared.state.Done.{Done}
 use Rattle.walking.specs.Gives.{as_data, as_entry, moved_to, Gives}
 use Rattle.walking.specs.Settled.{passed_list}
@@ -86,11 +86,11 @@ module _ {G : Type 0} (run : G → M Val) (key : G → List ℕ) (z : G) (cs : C
         (q : Gives (as_entry (keyed (key (group_at slots j)))) cs text errors (record { at = at; errs = errs; choice = c; top = top })
         (run (group_at slots j) (drop c cs)) d text2 errors2) where
       -- The set is given up.
-      pub setting_lost : {f : Failure} → d.what ≡ Fails f
+      pub setting_lost : {f : Failure} → d.what ≡ Err f
           → Gives as_data cs text₀ errors₀ s whole (passed_list (record { what = d.what; state = moved_to d.state s.at })) text2 errors2
       unfolding any_order mark ◌>>=◌
       setting_lost e =
-          let f = fall_of (as_entry (keyed (key (group_at slots j)))) (run (group_at slots j) (drop c cs)) (sym e ∙ q.what) in
+          let f = fall_of (as_entry (keyed (key (group_at slots j)))) (run (group_at slots j) (drop c cs)) e q.what in
           so_lost_set cs (run (group_at slots j)) _ next q f refl h.wrote (rides_mark p groups _)
 
       before : List ℕ
@@ -104,7 +104,7 @@ module _ {G : Type 0} (run : G → M Val) (key : G → List ℕ) (z : G) (cs : C
       again : {text3 : List ℕ}
           → ((v : Val) → Wrote text text2 at d.state.at (slot_entry key (group_at slots j) (Some v))
           → Wrote text₀ text3 s.at d.state.at (slotted key gs (set slots (slot slots j) (Some v))))
-          → {k : Kind} → d.what ≡ Placed k → Turned slots j at text text2 text3 errors2 d m
+          → {k : Kind} → d.what ≡ Ok k → Turned slots j at text text2 text3 errors2 d m
       again w e =
           let r = so_placed cs (run (group_at slots j)) _ next q e in
           record {
@@ -134,7 +134,7 @@ module _ {G : Type 0} (run : G → M Val) (key : G → List ℕ) (z : G) (cs : C
       -- The entry goes to its place among those that there are.
       pub setting_again : {off : ℕ} {text3 : List ℕ} → Moves text2 off at d.state.at text3
           → (d.state.at ≤ length text2 → off ≡ s.at + length (slotted key gs (take (slot slots j) slots)))
-          → {k : Kind} → d.what ≡ Placed k → Turned slots j at text text2 text3 errors2 d m
+          → {k : Kind} → d.what ≡ Ok k → Turned slots j at text text2 text3 errors2 d m
       unfolding before entry
       setting_again moves offset e =
           again (λ v w. same (sym (parts.2 v)) (moves.moves text₀ before parts.0 (entry v w) s.at (behind v w)
@@ -142,7 +142,7 @@ module _ {G : Type 0} (run : G → M Val) (key : G → List ℕ) (z : G) (cs : C
 
       -- It is in its place: no entry stands behind that.
       pub setting_behind : (d.state.at ≤ length text2 → at ≡ s.at + length (slotted key gs (take (slot slots j) slots)))
-          → {k : Kind} → d.what ≡ Placed k → Turned slots j at text text2 text2 errors2 d m
+          → {k : Kind} → d.what ≡ Ok k → Turned slots j at text text2 text2 errors2 d m
       unfolding before entry
       setting_behind last e =
           again (λ v w. same (sym (parts.2 v)) (swap_empty before parts.0 (entry v w) (behind v w) (λ k. none_behind v w k))) e
@@ -158,7 +158,7 @@ module _ {G : Type 0} (run : G → M Val) (key : G → List ℕ) (z : G) (cs : C
       → Setting slots text errors at errs choice 0
       → Closes 123 125 text s.at at text1 end
       → Gives as_data cs text₀ errors₀ s whole
-      (record { what = Placed kind.Object; state = record { at = end; errs = errs; choice = choice; top = top } }) text1 errors
+      (record { what = Ok kind.Object; state = record { at = end; errs = errs; choice = choice; top = top } }) text1 errors
   unfolding print_data any_order mark ◌>>=◌
   setting_ended {slots} h close =
       so_ends (object (fields (map key gs) (fill slots []))) (so_mark cs p _ (fill slots []) (rw (filling_end run gs slots) at h.so)) refl

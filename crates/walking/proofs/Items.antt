@@ -11,7 +11,7 @@ use Rattle.walking.specs.declared.state.State.{State}
 use Rattle.walking.specs.declared.state.Kind.{Kind}
 use Rattle.walking.specs.declared.state.Kind.TheVariants as kind
 use Rattle.walking.specs.declared.state.Failure.{Failure}
-use Rattle.walking.specs.declared.state.Completed.TheVariants.{Placed, Fails}
+use Rattle.std.specs.Prelude.{Ok, Err}
 use Rattle.walking.specs.declared.state.Done.{Done}
 use Rattle.walking.specs.Gives.{as_value, as_entry, labelled, moved_to, Gives}
 use Rattle.walking.proofs.RunLaws.{in_end, in_next, in_append}
@@ -73,7 +73,7 @@ module _ {G : Type 0} (run : G → M Val) where
           errors s'.errs s'.choice
       next = so_is cs _ _ s'.choice h.so (ap (λ (m : M Val). m (drop s'.choice cs)) (listing_next h.values g left))
 
-      pub listing_again : {k : Kind} → d.what ≡ Placed k → Listing text' errors' d.state.at d.state.errs d.state.choice left
+      pub listing_again : {k : Kind} → d.what ≡ Ok k → Listing text' errors' d.state.at d.state.errs d.state.choice left
       listing_again e =
           let r = so_placed cs (run g) _ next q e in
           record {
@@ -84,10 +84,10 @@ module _ {G : Type 0} (run : G → M Val) where
                 («then» h.wrote r.2);
           }
 
-      pub listing_lost : {f : Failure} → d.what ≡ Fails f
+      pub listing_lost : {f : Failure} → d.what ≡ Err f
           → Gives as_value cs text₀ errors₀ s (listing [] gs (drop s.choice cs))
           (record { what = d.what; state = moved_to d.state s.at }) text' errors'
-      listing_lost e = so_lost cs (run g) _ next q (fall_of (as_entry comma) _ (sym e ∙ q.what)) refl h.wrote (rides_same _)
+      listing_lost e = so_lost cs (run g) _ next q (fall_of (as_entry comma) _ e q.what) refl h.wrote (rides_same _)
 
     -- Several items were done at once, plainly.
     pub listing_plain : {text text' errors : List ℕ} {at errs choice at' choice' n : ℕ} {xs left : List G} {us : List Val}
@@ -106,7 +106,7 @@ module _ {G : Type 0} (run : G → M Val) where
     pub listing_ended : {text text' errors : List ℕ} {at errs choice end top : ℕ} → Listing text errors at errs choice []
         → Closes 91 93 text s.at at text' end
         → Gives as_value cs text₀ errors₀ s (listing [] gs (drop s.choice cs))
-        (record { what = Placed kind.List; state = record { at = end; errs = errs; choice = choice; top = top } }) text' errors
+        (record { what = Ok kind.List; state = record { at = end; errs = errs; choice = choice; top = top } }) text' errors
     unfolding print_data
     listing_ended h c =
         so_ends (val (list (entries h.values))) (rw (listing_end h.values) at h.so) refl

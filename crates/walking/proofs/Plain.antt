@@ -11,7 +11,7 @@ use Rattle.writing.proofs.WroteLaws.{stay}
 use Rattle.graphql.specs.Run.{Path, given_up, Event, Choices, Res, done, M, pure, marked, mark, ◌>>=◌}
 use Rattle.graphql.specs.Run.{pick, the, others, put_back, taking, any_order, in_order}
 use Rattle.walking.specs.declared.state.State.{State}
-use Rattle.walking.specs.declared.state.Completed.TheVariants.{Placed}
+use Rattle.std.specs.Prelude.{Ok}
 use Rattle.walking.specs.Gives.{View, Gives}
 use Rattle.walking.proofs.RunLaws.{bind_at}
 use Rattle.walking.proofs.Ended.{words_none}
@@ -124,7 +124,7 @@ so_plain cs {e = e} {a = a} {c = c} {j = j} m k {v} h g o =
 pub plain_gives : {A : Type 0} {U : View A} {k : ℕ} {m : M A} {v : A} → Plain k m v → {cs text text' errors : List ℕ} {s : State} {end choice top : ℕ}
     → drop choice cs ≡ drop (s.choice + k) cs → Wrote text text' s.at end (U.show v)
     → Gives U cs text errors s (m (drop s.choice cs))
-    (record { what = Placed (U.says v); state = record { at = end; errs = s.errs; choice = choice; top = top } }) text' errors
+    (record { what = Ok (U.says v); state = record { at = end; errs = s.errs; choice = choice; top = top } }) text' errors
 plain_gives {k = k} h {cs} {errors = errors} {s = s} e w =
     rw (h.plainly (drop s.choice cs)) (record {
       what = refl;

@@ -13,8 +13,8 @@ use Rattle.walking.specs.declared.state.State.{State}
 use Rattle.walking.specs.declared.state.Kind.{Kind}
 use Rattle.walking.specs.declared.state.Kind.TheVariants as kind
 use Rattle.walking.specs.declared.state.Done.{Done}
-use Rattle.walking.specs.declared.state.Completed.TheVariants.{Placed}
-use Rattle.walking.specs.Gives.{View, moved_to, Gives, noted as words}
+use Rattle.std.specs.Prelude.{Ok}
+use Rattle.walking.specs.Gives.{Completed, View, moved_to, Gives, noted as words}
 use Rattle.walking.specs.Settled.{passed_list}
 use Rattle.walking.proofs.RunLaws.{after_nil, after_after}
 use Rattle.walking.proofs.Ends.{Fall, f_stop, f_failed, placed_of}
@@ -137,15 +137,15 @@ module _ (cs : Choices) {A : Type 0} where
     so_given {v} {w} {l} p = let r = rw p at q in (r.wrote, so_done m k v w l g p r.chosen r.noted)
 
     -- It came to a value.
-    pub so_placed : {i : Kind} → d.what ≡ Placed i → (v : B) × (i ≡ U.says v) × Wrote t t' s'.at d.state.at (U.show v)
+    pub so_placed : {i : Kind} → d.what ≡ Ok i → (v : B) × (i ≡ U.says v) × Wrote t t' s'.at d.state.at (U.show v)
         × Sofar cs x e₀ a₀ (k v) e' d.state.errs d.state.choice
     so_placed h =
-        let p = placed_of U (m (drop s'.choice cs)) (sym h ∙ q.what) in
+        let p = placed_of U (m (drop s'.choice cs)) h q.what in
         let r = so_given p.3 in
         let z = rw p.3 at q in
         (p.0, kind_is (sym h ∙ z.what), r.0, r.1)
       where
-        kind_is : {i j : Kind} → Placed i ≡ Placed j → i ≡ j
+        kind_is : {i j : Kind} → ◌≡◌ {A = Completed} (Ok i) (Ok j) → i ≡ j
         kind_is e = cc
 
     lost_fall : Fall (m (drop s'.choice cs)) → Fall x
@@ -171,5 +171,5 @@ module _ (cs : Choices) {A : Type 0} where
 -- Nothing is left, and the text is the value's: the end of a part.
 pub so_ends : {A : Type 0} {U : View A} {cs : Choices} {x : Res A} {e₀ e : List ℕ} {a₀ a c top : ℕ} (v : A) → Sofar cs x e₀ a₀ (pure v) e a c
     → {t t' : List ℕ} {s : State} {b : ℕ} → s.errs ≡ a₀ → Wrote t t' s.at b (U.show v)
-    → Gives U cs t e₀ s x (record { what = Placed (U.says v); state = record { at = b; errs = a; choice = c; top = top } }) t' e
+    → Gives U cs t e₀ s x (record { what = Ok (U.says v); state = record { at = b; errs = a; choice = c; top = top } }) t' e
 so_ends {cs = cs} v g z w = rw (so_pure cs v g) (record { what = refl; wrote = w; noted = rw z g.noted; chosen = refl })

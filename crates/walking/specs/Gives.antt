@@ -2,6 +2,8 @@
 -- records noted, the choices left; and nothing else.
 use Rattle.std.specs.Prelude.{◌≡◌, List, [], ◌++◌, ℕ, length, drop}
 use Rattle.writing.specs.Wrote.{Wrote}
+use Rattle.codes.specs.Outcome.{code_of}
+use Rattle.codes.specs.declared.outcome.Outcome.{Outcome}
 use Rattle.graphql.specs.Run.{Reach, here, past_list, Log, Choices, Res, stop, failed, done}
 use Rattle.graphql.specs.Data.{Data, nulled, leaf, list, object, Val, absent, val, print_data}
 use Rattle.graphql.specs.Report.{records_of, words_of}
@@ -10,9 +12,12 @@ use Rattle.walking.specs.declared.state.Kind.{Kind}
 use Rattle.walking.specs.declared.state.Kind.TheVariants as kind
 use Rattle.walking.specs.declared.state.Failure.{Failure}
 use Rattle.walking.specs.declared.state.Failure.TheVariants.{Here, PastList, Stop}
-use Rattle.walking.specs.declared.state.Completed.{Completed}
-use Rattle.walking.specs.declared.state.Completed.TheVariants.{Placed, Fails}
+use Rattle.std.specs.Prelude.{Result, Ok, Err}
 use Rattle.walking.specs.declared.state.Done.{Done}
+
+-- how a completion ends: what stands at the place, or a failure going up
+abbrev pub Completed : Type 0
+Completed = Result Kind Failure
 
 -- what the code says of a value, and the text that it writes for it
 pub record View (A : Type 0) : Type 0 where
@@ -53,11 +58,17 @@ reach_of past_list = PastList
 abbrev pub moved_to : State → ℕ → State
 moved_to s at = record { at = at; errs = s.errs; choice = s.choice; top = s.top }
 
+-- the run ended, with the outcome that has this number
+pub record StopsWith (number : ℕ) (w : Completed) : Type 0 where
+  pub outcome : Outcome
+  pub is : w ≡ Err (Stop outcome)
+  pub numbered : code_of outcome ≡ number
+
 module _ {A : Type 0} where
-  abbrev pub answer_of : View A → Res A → Completed
-  answer_of U (stop code log) = Fails (Stop code)
-  answer_of U (failed r log c) = Fails (reach_of r)
-  answer_of U (done a log c) = Placed (U.says a)
+  abbrev pub AnswerOf : View A → Res A → Completed → Type 0
+  AnswerOf U (stop code log) w = StopsWith code w
+  AnswerOf U (failed r log c) w = w ≡ Err (reach_of r)
+  AnswerOf U (done a log c) w = w ≡ Ok (U.says a)
 
   -- what was done to the text: where the run stopped it is nobody's, and only as long as it was
   abbrev pub TextOf : View A → Res A → (text text' : List ℕ) (at at' : ℕ) → Type 0
@@ -82,7 +93,7 @@ noted log = words_of (records_of log)
 
 -- The call came to x: from the state `s` and these buffers to the end `d` and those.
 pub record Gives {A : Type 0} (U : View A) (cs text errors : List ℕ) (s : State) (x : Res A) (d : Done) (text' errors' : List ℕ) : Type 0 where
-  pub what : d.what ≡ answer_of U x
+  pub what : AnswerOf U x d.what
   pub wrote : TextOf U x text text' s.at d.state.at
   pub noted : Wrote errors errors' s.errs d.state.errs (noted (log_of x))
   pub chosen : drop d.state.choice cs ≡ left_of (drop d.state.choice cs) x

@@ -7,15 +7,15 @@ use Rattle.graphql.specs.Report.{record_words}
 use Rattle.walking.specs.declared.state.State.{State}
 use Rattle.walking.specs.declared.state.Failure.{Failure}
 use Rattle.walking.specs.declared.state.Failure.TheVariants.{Here, PastList, Stop}
-use Rattle.walking.specs.declared.state.Completed.{Completed}
-use Rattle.walking.specs.declared.state.Completed.TheVariants.{Placed, Fails}
+use Rattle.walking.specs.Gives.{Completed}
+use Rattle.std.specs.Prelude.{Ok, Err}
 use Rattle.walking.specs.declared.state.Done.{Done}
 use Rattle.walking.specs.Gives.{as_value, as_entry, moved_to, Gives}
 
 -- A failure with one record: the text stays, no choice is taken. `fails_gives` (proofs/Ended) says that it is the definition's, for any view: a field
 -- over all of them would be too large for a contract.
 pub record FailsWith (failure : Failure) (r : ErrorRecord) (errors : List ℕ) (s : State) (d : Done) (errors' : List ℕ) : Type 0 where
-  pub what : d.what ≡ Fails failure
+  pub what : d.what ≡ Err failure
   pub stays : d.state.at ≡ s.at
   pub unchosen : d.state.choice ≡ s.choice
   pub level : d.state.top ≡ s.top
@@ -37,11 +37,11 @@ pub record Nullifies (non_null : Bool) (d : Done) (text : List ℕ) (r : Done) (
 abbrev pub lower : Failure → Failure
 lower Here = Here
 lower PastList = Here
-lower (Stop code) = Stop code
+lower (Stop outcome) = Stop outcome
 
 abbrev pub lower_what : Completed → Completed
-lower_what (Placed kind) = Placed kind
-lower_what (Fails failure) = Fails (lower failure)
+lower_what (Ok kind) = Ok kind
+lower_what (Err failure) = Err (lower failure)
 
 abbrev pub passed_list : Done → Done
 passed_list d = record { what = lower_what d.what; state = d.state }

@@ -6,8 +6,9 @@ ghost use Rattle.walking.specs.Settled.{FailsWith, Nullifies, passed_list, Settl
 
 use crate::path::Path;
 use crate::record::put_record;
-use crate::state::{Completed, Done, Failure, Kind, State};
+use crate::state::{Done, Failure, Kind, State};
 use codes::errors::FieldError;
+use codes::outcome::Outcome;
 use tokens::json::put_null;
 
 // The same state with the text at another position.
@@ -24,20 +25,20 @@ pub fn moved(s: State, at: usize) -> State
 
 // A place that is completed, with its text up to a position.
 pub fn placed(s: State, at: usize, kind: Kind) -> Done
-    ensures { result ≡ record { what = Completed.Placed kind; state = moved_to s at } }
+    ensures { result ≡ record { what = Ok kind; state = moved_to s at } }
 {
     Done {
-        what: Completed::Placed(kind),
+        what: Ok(kind),
         state: moved(s, at),
     }
 }
 
-// The run ends here, with a code.
-pub fn stopped(s: State, code: u32) -> Done
-    ensures { result ≡ record { what = Completed.Fails (Failure.Stop code); state = s } }
+// The run ends here.
+pub fn stopped(s: State, outcome: Outcome) -> Done
+    ensures { result ≡ record { what = Err (Failure.Stop outcome); state = s } }
 {
     Done {
-        what: Completed::Fails(Failure::Stop(code)),
+        what: Err(Failure::Stop(outcome)),
         state: s,
     }
 }
@@ -57,7 +58,7 @@ pub fn fail(
 {
     let errs = put_record(errors, s.errs, error, place, path, last);
     Done {
-        what: Completed::Fails(failure),
+        what: Err(failure),
         state: State {
             at: s.at,
             errs: errs,
@@ -73,7 +74,7 @@ pub fn try_nullify(text: &mut [u8], non_null: bool, d: Done) -> Done
 {
     let state = d.state;
     let what = d.what;
-    let Completed::Fails(failure) = what else {
+    let Err(failure) = what else {
         return d;
     };
     let Failure::Here = failure else {
@@ -92,14 +93,14 @@ pub fn past_list(d: Done) -> Done
 {
     let state = d.state;
     let what = d.what;
-    let Completed::Fails(failure) = what else {
+    let Err(failure) = what else {
         return d;
     };
     let Failure::PastList = failure else {
         return d;
     };
     Done {
-        what: Completed::Fails(Failure::Here),
+        what: Err(Failure::Here),
         state: state,
     }
 }
@@ -110,7 +111,7 @@ pub fn settle(d: Done, start: usize) -> Done
 {
     let state = d.state;
     let what = d.what;
-    let Completed::Placed(kind) = what else {
+    let Ok(kind) = what else {
         return Done {
             what: what,
             state: moved(state, start),

@@ -1,4 +1,5 @@
 // How a run stands, and how a part of it ends.
+use codes::outcome::Outcome;
 
 // Where the next byte of the text goes, the next word of the errors and the next choice, and how many rows of plans stand. A position past its
 // buffer's end says only that it is past it.
@@ -20,23 +21,17 @@ pub enum Kind {
     Object,
 }
 
-// How far a failure goes up: to the place around it, past the list around it, or to the end of the run, with document 01's code.
+// How far a failure goes up: to the place around it, past the list around it, or to the end of the run.
 #[derive(Clone, Copy)]
 pub enum Failure {
     Here,
     PastList,
-    Stop(u32),
+    Stop(Outcome),
 }
 
-// The answer of a completion: a completed place, or a failure going up.
-#[derive(Clone, Copy)]
-pub enum Completed {
-    Placed(Kind),
-    Fails(Failure),
-}
-
+// A completion: what stands at the completed place, or a failure going up; and how the run stands then.
 #[derive(Clone, Copy)]
 pub struct Done {
-    pub what: Completed,
+    pub what: Result<Kind, Failure>,
     pub state: State,
 }

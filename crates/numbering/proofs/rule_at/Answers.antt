@@ -1,15 +1,14 @@
-use Rattle.tables.proofs.Numbered.{rule_size, rule_schema, rule_document, rule_value}
+-- The array is the list of the rules. Assumes nothing.
+use mathlib.Core.Path.{sym}
 use native.Mathlib.Omega.{arith}
+use Rattle.std.proofs.lemmas.List.{get_or_default, get_or_past}
+use Rattle.tables.specs.Rules.{rules, rule_at}
 use Rattle.numbering.proofs.rule_at.Goals as goal
 
-pub returns-then-k-lt14 : goal.returns-then-k-lt14
-returns-then-k-lt14 c = rw c.nth_size_rule.ensures (rule_size c.args.k (omega arith))
+pub returns-then-k-lt46 : goal.returns-then-k-lt46
+unfolding rule_at
+returns-then-k-lt46 c = get_or_default rules c.args.k _ _ (omega arith)
 
-pub returns-then-k-lt27 : goal.returns-then-k-lt27
-returns-then-k-lt27 c = rw c.nth_schema_rule.ensures (rule_schema c.args.k (omega arith) (omega arith))
-
-pub returns-then-k-lt36 : goal.returns-then-k-lt36
-returns-then-k-lt36 c = rw c.nth_document_rule.ensures (rule_document c.args.k (omega arith) (omega arith))
-
-pub returns : goal.returns
-returns c = rw c.nth_value_rule.ensures (rule_value c.args.k (omega arith))
+pub returns-else-k-lt46 : goal.returns-else-k-lt46
+unfolding rule_at
+returns-else-k-lt46 c = sym (get_or_past rules c.args.k _ (omega arith))

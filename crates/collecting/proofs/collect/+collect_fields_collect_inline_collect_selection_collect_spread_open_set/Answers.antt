@@ -1,19 +1,19 @@
 -- The five functions of the walk, by one induction: the fragments that may still be opened fall. Assumes nothing.
-use native.Mathlib.Omega.{arith}
+use mathlib.Core.Path.{◌≡◌}
+use Rattle.std.specs.Prelude.{Err}
 use borrow.Author.Rules.{rules}
-use Rattle.collecting.proofs.Walk.{walking}
+use Rattle.collecting.proofs.Walk.{walking, going_again, going_stopped}
 use Rattle.collecting.proofs.collect.+collect_fields_collect_inline_collect_selection_collect_spread_open_set.Goals as goal
 
 ruleset walk = (walking, rules)
 
-pub collect_fields-collect_selection-collecting-requires : goal.collect_fields-collect_selection-collecting-requires
-collect_fields-collect_selection-collecting-requires t c = (omega arith, (search walk, omega arith))
-
-pub collect_fields-returns-in_default : goal.collect_fields-returns-in_default
-collect_fields-returns-in_default t c = search walk
+pub collect_fields-returns-in_err-so_far : goal.collect_fields-returns-in_err-so_far
+collect_fields-returns-in_err-so_far t c =
+    let e : c.from_residual.result ≡ Err c.in_err-so_far.field-0.0 = search rules in
+    rw e (going_stopped _ _ _ _ _ _ _ _ _ _ _ _ c.loop-i.invariant (search walk) c.collect_selection.ensures c.in_err-so_far.was)
 
 pub collect_fields-loop-i-preserved : goal.collect_fields-loop-i-preserved
-collect_fields-loop-i-preserved t c = search walk
+collect_fields-loop-i-preserved t c = going_again _ _ _ _ _ _ _ _ _ _ _ _ c.loop-i.invariant (search walk) c.collect_selection.ensures c.in_ok-so_far.was
 
 pub collect_fields-returns : goal.collect_fields-returns
 collect_fields-returns t c = search walk

@@ -1,5 +1,5 @@
 -- The five functions of the walk, by one induction: the fragments that may still be opened fall. Assumes nothing.
-use Prim.Native.Nat.{◌+◌, ◌*◌, ◌-◌}
+use Prim.Native.Nat.{◌+◌, ◌*◌}
 use Rattle.collecting.proofs.Walk.{Going}
 use Rattle.collecting.proofs.collect.+collect_fields_collect_inline_collect_selection_collect_spread_open_set.Given as goal
 
@@ -19,4 +19,4 @@ abbrev pub decreases-open_set : goal.decreases-open_set
 decreases-open_set l = l.room * 4
 
 abbrev pub invariant-collect_fields-loop-i : goal.invariant-collect_fields-loop-i
-invariant-collect_fields-loop-i l = Going l.types l.members l.sets l.selections l.fragments l.nodes l.variables l.room l.object (record { first = l.first; count = l.count }) l.initial.list (record { visited = l.initial.visited; count = l.initial.fields }) l.list (record { visited = l.visited; count = l.fields }) l.i
+invariant-collect_fields-loop-i l = Going l.tables.types.now l.tables.members.now l.tables.sets.now l.tables.selections.now l.tables.fragments.now l.tables.nodes.now l.tables.variables.now l.room l.object (record { first = l.first; count = l.count }) l.initial.list l.fn.gathered l.list l.so_far l.i

@@ -1,16 +1,10 @@
 -- Int, long, and every other sort. Assumes nothing.
 use mathlib.Core.Bool.{decide}
 use mathlib.Core.Path.{sym, ap}
-use mathlib.Core.List.{List, [], ◌∷◌}
-use Prim.Native.Nat.{ℕ}
 use Rattle.graphql.specs.Json.{a_long, an_int}
 use Rattle.completing.specs.Judged.{int_taken}
 use Rattle.completing.proofs.Sorts.{is_not}
 use Rattle.completing.proofs.result_coercion.int_takes.Goals as goal
-
--- the numbers of the other sorts
-abbrev others : List ℕ
-others = 0 ∷ 1 ∷ 4 ∷ 5 ∷ 6 ∷ 7 ∷ []
 
 pub returns-in-Int : goal.returns-in-Int
 unfolding decide
@@ -21,4 +15,4 @@ unfolding decide
 returns-in-Long c = sym (ap int_taken c.in-Long.is)
 
 pub returns-in_default : goal.returns-in_default
-returns-in_default c = rw (is_not an_int _ others c.in_default.in_default-own.keys3 tt, is_not a_long _ others c.in_default.in_default-own.keys3 tt)
+returns-in_default c = rw (is_not an_int _ c.in_default.not-Int, is_not a_long _ c.in_default.not-Long)

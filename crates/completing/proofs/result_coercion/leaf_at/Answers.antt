@@ -1,6 +1,5 @@
 -- By the kind of the type. Assumes nothing.
 use Rattle.completing.proofs.Leaves.{at_composite, at_input, at_scalar, at_unknown}
-use borrow.Enum.Refused.{shut}
 use Rattle.completing.proofs.result_coercion.leaf_at.Goals as goal
 
 pub returns-in-Scalar : goal.returns-in-Scalar
@@ -17,4 +16,5 @@ pub returns-in-Unknown : goal.returns-in-Unknown
 returns-in-Unknown c = rw (← c.type_at-def.ensures, c.in-Unknown.is) (at_unknown _ _ _ _)
 
 pub returns-in_default : goal.returns-in_default
-returns-in_default c = rw (← c.type_at-def.ensures) (at_composite _ _ _ _ _ (shut c.in_default.in_default-own.keys5))
+returns-in_default c = rw (← c.type_at-def.ensures)
+    (at_composite _ _ _ _ _ c.in_default.not-Scalar c.in_default.not-Enum c.in_default.not-InputObject c.in_default.not-Unknown)

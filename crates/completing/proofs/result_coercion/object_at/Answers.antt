@@ -1,16 +1,13 @@
 -- By the kind of the type. Assumes nothing.
-use Rattle.completing.proofs.Types.{object_enum, object_input, object_own, object_scalar, object_unknown}
+use Rattle.completing.proofs.Types.{object_input, object_leaf, object_own, object_unknown}
 use Rattle.completing.proofs.result_coercion.object_at.Goals as goal
 
 pub returns-in-Scalar : goal.returns-in-Scalar
-returns-in-Scalar c = rw (← c.type_at-def.ensures, c.in-Scalar.is) (object_scalar _ _)
-
-pub returns-in-Enum : goal.returns-in-Enum
-returns-in-Enum c = rw (← c.type_at-def.ensures, c.in-Enum.is) (object_enum _ _)
+returns-in-Scalar c = rw (← c.type_at-def.ensures) (object_leaf _ _ _ c.in-Scalar.is)
 
 pub returns-in-Object : goal.returns-in-Object
 returns-in-Object c = rw (← c.type_at-def.ensures, c.in-Object.is)
-    (object_own _ _ c.type_at-def.ensures c.in-Object.is c.object_if.ensures)
+    (object_own _ _ c.type_at-def.ensures c.in-Object.is c.only_if.ensures)
 
 pub returns-in-Interface : goal.returns-in-Interface
 returns-in-Interface c = rw (← c.type_at-def.ensures, c.in-Interface.is) c.implementing.ensures

@@ -1,5 +1,5 @@
 -- The next note follows from the one before and from the last row that has the word. Assumes nothing.
-use mathlib.Core.Path.{refl, sym, ◌∙◌}
+use mathlib.Core.Path.{◌≡◌, refl, sym, ◌∙◌}
 use Prim.Native.Nat.{◌+◌, ◌<◌}
 use native.Mathlib.Omega.{arith}
 use lib.ListN.{length, length-set}
@@ -25,17 +25,18 @@ bounds-since-row c = omega (arith, simp length-set at c.loop-row.invariant.1)
 pub loop-row-preserved : goal.loop-row-preserved
 loop-row-preserved c = let room : c.loop-row.row + 1 < length c.loop-row.since = omega (arith, simp length-set at c.loop-row.invariant.1) in (
   search rules,
-  length-set c.loop-row.since (c.loop-row.row + 1) c.later-from.result ∙ c.loop-row.invariant.1,
+  length-set c.loop-row.since (c.loop-row.row + 1) c.max-from.result ∙ c.loop-row.invariant.1,
   lasts_one _ _ _ _ _ c.loop-row.invariant.2 c.cell-word.ensures c.if-word-ge512.false,
-  since_one _ _ _ c.loop-row.invariant.3 c.later-from.result
-      (rw (c.later-from.ensures, c.loop-row.invariant.4)
+  since_one _ _ _ c.loop-row.invariant.3 c.max-from.result
+      (rw (c.max-from.ensures, c.loop-row.invariant.4)
       (after_from _ _ _ _ (lasts_found _ _ _ _ _ c.loop-row.invariant.2 c.cell-word.ensures c.if-word-ge512.false) (since_low _ _ _ c.loop-row.invariant.3)))
       room,
-  sym (get_or-set_same c.loop-row.since (c.loop-row.row + 1) c.later-from.result 0 room),
+  sym (get_or-set_same c.loop-row.since (c.loop-row.row + 1) c.max-from.result 0 room),
 )
 
 pub shape_of-since : goal.shape_of-since
 shape_of-since c = c.loop-row.invariant.1 ∙ length-set c.args.since.now 0 0
 
 pub returns : goal.returns
-returns c = (omega (arith, simp length-set at c.loop-row.invariant.1), c.loop-row.invariant.3)
+returns c = let e : c.loop-row.row ≡ c.rows_to_note-rows.result = omega arith in
+    (omega (arith, simp length-set at c.loop-row.invariant.1), rw e at c.loop-row.invariant.3)

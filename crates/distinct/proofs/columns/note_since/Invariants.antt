@@ -1,6 +1,6 @@
 -- The next note follows from the one before and from the last row that has the word. Assumes nothing.
 use mathlib.Core.Path.{◌≡◌}
-use Prim.Native.Nat.{◌-◌, ◌≤◌}
+use Prim.Native.Nat.{◌≤◌}
 use lib.ListN.{length, get_or}
 use Rattle.rows.specs.Rows.{cell}
 use Rattle.rules.specs.Rows.{other}
@@ -13,6 +13,3 @@ invariant-loop-row l = (l.row ≤ l.rows)
     × Lasts (λ j. cell l.t l.width j l.column) 512 l.row l.lasts
     × Since (other l.t l.width l.column) l.row l.since
     × (l.from ≡ get_or l.since l.row 0)
-
-abbrev pub decreases-loop-row : goal.decreases-loop-row
-decreases-loop-row l = l.rows - l.row

@@ -1,17 +1,6 @@
--- The keys of the nodes passed differ; a node whose keys do not ends the search. Assumes nothing.
-use Rattle.rows.proofs.Every.{all_none, all_more, all_broken, all_ended}
 use borrow.Author.Rules.{rules}
+use Rattle.rules.proofs.Ranges.{all_in_range}
 use Rattle.distinct.proofs.keys.all_keys_differ_since.Goals as goal
 
-pub loop-row-init : goal.loop-row-init
-loop-row-init c = (search rules, all_none _)
-
-pub returns-then-not-keys_differ_since : goal.returns-then-not-keys_differ_since
-returns-then-not-keys_differ_since c = rw (← c.row_count-rows.ensures)
-    (all_broken _ c.loop-row.row _ c.keys_differ_since.result c.loop-row-test.true c.keys_differ_since.ensures c.if-not-keys_differ_since.true-raw)
-
-pub loop-row-preserved : goal.loop-row-preserved
-loop-row-preserved c = (search rules, all_more _ c.loop-row.row c.keys_differ_since.result c.loop-row.invariant.1 c.keys_differ_since.ensures c.if-not-keys_differ_since.false-raw)
-
 pub returns : goal.returns
-returns c = rw (← c.row_count-rows.ensures) (all_ended _ c.loop-row.row _ c.loop-row.invariant.1 c.loop-row.invariant.0 c.loop-row-test.false)
+returns c = rw (← c.row_count-rows.ensures) (all_in_range _ _ c.all.ensures.ran (λ row b h k. search rules))

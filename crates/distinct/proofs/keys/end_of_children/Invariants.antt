@@ -1,7 +1,7 @@
 -- As long as the end is 0, the nodes passed are plain. Assumes nothing.
 use mathlib.Core.Path.{◌≡◌}
 use mathlib.Core.Bool.{true}
-use Prim.Native.Nat.{◌-◌, ◌≤◌}
+use Prim.Native.Nat.{◌≤◌}
 use Rattle.rows.specs.Rows.{all}
 use Rattle.distinct.specs.Plain.{is_plain}
 use Rattle.distinct.proofs.keys.end_of_children.Given as goal

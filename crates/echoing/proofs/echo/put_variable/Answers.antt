@@ -6,4 +6,4 @@ pub returns-in_default : goal.returns-in_default
 returns-in_default c = search variabled
 
 pub returns : goal.returns
-returns c = search variabled
+returns c = rw c.ok.ensures.value (search variabled)

@@ -1,5 +1,6 @@
 -- The functions of the walk, by one induction: the segments that a path may still have fall. Assumes nothing.
-use mathlib.Core.Path.{refl}
+use mathlib.Core.Path.{refl, ap, ◌∙◌}
+use Rattle.std.specs.Prelude.{Ok}
 use native.Mathlib.Omega.{arith}
 use borrow.Author.Rules.{rules}
 use Rattle.execution.proofs.Looping.{items_begin, items_itemizable, items_numbered, items_ready, items_again, items_lost, items_ended}
@@ -19,32 +20,29 @@ complete_items-complete_item-step-requires t c = record { itemizable = items_ite
 pub complete_items-go_on-d-requires : goal.complete_items-go_on-d-requires
 complete_items-go_on-d-requires t c = (omega arith, items_ready _ _ _ _ _ _ _ _ _ _ _ _ _ _ _ c.requires c.loop-i.invariant c.loop-i-test.true refl c.complete_item-step.ensures)
 
-pub complete_items-shape_of-text-in_default : goal.complete_items-shape_of-text-in_default
-complete_items-shape_of-text-in_default t c = (items_lost _ _ _ _ _ _ _ _ _ _ _ _ _ _ _ c.requires c.loop-i.invariant c.loop-i-test.true refl c.complete_item-step.ensures c.go_on-d.ensures c.in_default.is).same_text
+pub complete_items-shape_of-text-in-Err : goal.complete_items-shape_of-text-in-Err
+complete_items-shape_of-text-in-Err t c = (items_lost _ _ _ _ _ _ _ _ _ _ _ _ _ _ _ c.requires c.loop-i.invariant c.loop-i-test.true refl c.complete_item-step.ensures c.go_on-d.ensures c.in-Err.is).same_text
 
-pub complete_items-shape_of-errors-in_default : goal.complete_items-shape_of-errors-in_default
-complete_items-shape_of-errors-in_default t c = (items_lost _ _ _ _ _ _ _ _ _ _ _ _ _ _ _ c.requires c.loop-i.invariant c.loop-i-test.true refl c.complete_item-step.ensures c.go_on-d.ensures c.in_default.is).same_errors
+pub complete_items-shape_of-errors-in-Err : goal.complete_items-shape_of-errors-in-Err
+complete_items-shape_of-errors-in-Err t c = (items_lost _ _ _ _ _ _ _ _ _ _ _ _ _ _ _ c.requires c.loop-i.invariant c.loop-i-test.true refl c.complete_item-step.ensures c.go_on-d.ensures c.in-Err.is).same_errors
 
-pub complete_items-shape_of-plans-in_default : goal.complete_items-shape_of-plans-in_default
-complete_items-shape_of-plans-in_default t c = (items_lost _ _ _ _ _ _ _ _ _ _ _ _ _ _ _ c.requires c.loop-i.invariant c.loop-i-test.true refl c.complete_item-step.ensures c.go_on-d.ensures c.in_default.is).left.kept.sized
+pub complete_items-shape_of-plans-in-Err : goal.complete_items-shape_of-plans-in-Err
+complete_items-shape_of-plans-in-Err t c = (items_lost _ _ _ _ _ _ _ _ _ _ _ _ _ _ _ c.requires c.loop-i.invariant c.loop-i-test.true refl c.complete_item-step.ensures c.go_on-d.ensures c.in-Err.is).left.kept.sized
 
-pub complete_items-shape_of-spans-in_default : goal.complete_items-shape_of-spans-in_default
-complete_items-shape_of-spans-in_default t c = (items_lost _ _ _ _ _ _ _ _ _ _ _ _ _ _ _ c.requires c.loop-i.invariant c.loop-i-test.true refl c.complete_item-step.ensures c.go_on-d.ensures c.in_default.is).left.unspanned.sized
+pub complete_items-shape_of-spans-in-Err : goal.complete_items-shape_of-spans-in-Err
+complete_items-shape_of-spans-in-Err t c = (items_lost _ _ _ _ _ _ _ _ _ _ _ _ _ _ _ c.requires c.loop-i.invariant c.loop-i-test.true refl c.complete_item-step.ensures c.go_on-d.ensures c.in-Err.is).left.unspanned.sized
 
-pub complete_items-shape_of-hints-in_default : goal.complete_items-shape_of-hints-in_default
-complete_items-shape_of-hints-in_default t c = (items_lost _ _ _ _ _ _ _ _ _ _ _ _ _ _ _ c.requires c.loop-i.invariant c.loop-i-test.true refl c.complete_item-step.ensures c.go_on-d.ensures c.in_default.is).left.hinted
+pub complete_items-shape_of-hints-in-Err : goal.complete_items-shape_of-hints-in-Err
+complete_items-shape_of-hints-in-Err t c = (items_lost _ _ _ _ _ _ _ _ _ _ _ _ _ _ _ c.requires c.loop-i.invariant c.loop-i-test.true refl c.complete_item-step.ensures c.go_on-d.ensures c.in-Err.is).left.hinted
 
-pub complete_items-returns-in_default : goal.complete_items-returns-in_default
-complete_items-returns-in_default t c = rw c.moved.ensures (items_lost _ _ _ _ _ _ _ _ _ _ _ _ _ _ _ c.requires c.loop-i.invariant c.loop-i-test.true refl c.complete_item-step.ensures c.go_on-d.ensures c.in_default.is)
-
-pub complete_items-overflow_add-i : goal.complete_items-overflow_add-i
-complete_items-overflow_add-i t c = omega (arith, c.loop-i-test.true, c.requires.leads)
+pub complete_items-returns-in-Err : goal.complete_items-returns-in-Err
+complete_items-returns-in-Err t c = rw c.moved.ensures (items_lost _ _ _ _ _ _ _ _ _ _ _ _ _ _ _ c.requires c.loop-i.invariant c.loop-i-test.true refl c.complete_item-step.ensures c.go_on-d.ensures c.in-Err.is)
 
 pub complete_items-loop-i-smaller : goal.complete_items-loop-i-smaller
 complete_items-loop-i-smaller t c = omega (arith, c.loop-i-test.true)
 
 pub complete_items-loop-i-preserved : goal.complete_items-loop-i-preserved
-complete_items-loop-i-preserved t c = items_again _ _ _ _ _ _ _ _ _ _ _ _ _ _ _ c.requires c.loop-i.invariant c.loop-i-test.true refl c.complete_item-step.ensures c.go_on-d.ensures c.in-Placed.is
+complete_items-loop-i-preserved t c = items_again _ _ _ _ _ _ _ _ _ _ _ _ _ _ _ c.requires c.loop-i.invariant c.loop-i-test.true refl c.complete_item-step.ensures c.go_on-d.ensures c.in_default.is
 
 pub complete_items-returns : goal.complete_items-returns
 complete_items-returns t c = rw c.placed.ensures (items_ended c.requires c.loop-i.invariant c.loop-i-test.false c.close-end.ensures)
@@ -64,38 +62,38 @@ enter_field-go_on-requires t c = (omega arith, field_ready _ _ _ _ _ _ _ _ _ _ _
 pub enter_field-returns : goal.enter_field-returns
 enter_field-returns t c = field_done _ _ _ _ _ _ _ _ _ _ _ _ _ _ _ c.requires c.first_field.ensures c.execute_field-step.ensures c.go_on.ensures
 
-pub execute_apart-plan_apart-planned-requires : goal.execute_apart-plan_apart-planned-requires
-execute_apart-plan_apart-planned-requires t c = (apart_storable c.requires refl, apart_lookable c.requires)
+pub execute_apart-plan_apart-requires : goal.execute_apart-plan_apart-requires
+execute_apart-plan_apart-requires t c = (apart_storable c.requires refl, apart_lookable c.requires)
 
-pub execute_apart-returns-in_default : goal.execute_apart-returns-in_default
-execute_apart-returns-in_default t c = apart_stops c.requires refl c.plan_apart-planned.ensures c.in_default.not-At c.stop_code.ensures c.stopped.ensures
+pub execute_apart-returns-in-Err : goal.execute_apart-returns-in-Err
+execute_apart-returns-in-Err t c = apart_stops c.requires refl c.plan_apart.ensures c.in-Err.is c.stopped.ensures
 
 pub execute_apart-execute_selection_set-d-requires : goal.execute_apart-execute_selection_set-d-requires
-execute_apart-execute_selection_set-d-requires t c = (omega arith, rw c.planned_to.ensures (apart_set_ready c.requires refl c.plan_apart-planned.ensures c.in-At.is))
+execute_apart-execute_selection_set-d-requires t c = (omega arith, rw c.planned_to.ensures (apart_set_ready c.requires refl c.plan_apart.ensures c.in-Ok.is))
 
 pub execute_apart-returns : goal.execute_apart-returns
-execute_apart-returns t c = apart_set c.requires refl c.plan_apart-planned.ensures c.in-At.is c.done_apart.ensures (rw c.planned_to.ensures at c.execute_selection_set-d.ensures)
+execute_apart-returns t c = apart_set c.requires refl c.plan_apart.ensures c.in-Ok.is c.done_apart.ensures (rw c.planned_to.ensures at c.execute_selection_set-d.ensures)
 
-pub execute_object-plan_for-planned-requires : goal.execute_object-plan_for-planned-requires
-execute_object-plan_for-planned-requires t c = (object_plannable c.requires, c.requires.ready.hinted)
+pub execute_object-plan_for-requires : goal.execute_object-plan_for-requires
+execute_object-plan_for-requires t c = (object_plannable c.requires, c.requires.ready.hinted)
 
 pub execute_object-execute_apart-requires : goal.execute_object-execute_apart-requires
-execute_object-execute_apart-requires t c = (omega arith, object_apart_ready c.requires _ c.plan_for-planned.ensures (search rules) c.in-NoRoom.is)
+execute_object-execute_apart-requires t c = (omega arith, object_apart_ready c.requires _ c.plan_for.ensures (search rules) (c.in-Ok.is ∙ ap Ok c.in-None.is))
 
 pub execute_object-execute_selection_set-requires : goal.execute_object-execute_selection_set-requires
-execute_object-execute_selection_set-requires t c = (omega arith, rw c.planned_to.ensures (object_set_ready c.requires _ c.plan_for-planned.ensures (search rules) c.in-At.is))
+execute_object-execute_selection_set-requires t c = (omega arith, rw c.planned_to.ensures (object_set_ready c.requires _ c.plan_for.ensures (search rules) (c.in-Ok.is ∙ ap Ok c.in-Some.is)))
 
-pub execute_object-returns-in-NoRoom : goal.execute_object-returns-in-NoRoom
-execute_object-returns-in-NoRoom t c = object_apart c.requires _ c.plan_for-planned.ensures (search rules) c.in-NoRoom.is c.execute_apart.ensures
+pub execute_object-returns-in-None : goal.execute_object-returns-in-None
+execute_object-returns-in-None t c = object_apart c.requires _ c.plan_for.ensures (search rules) (c.in-Ok.is ∙ ap Ok c.in-None.is) c.execute_apart.ensures
 
-pub execute_object-shape_of-plans-in-At : goal.execute_object-shape_of-plans-in-At
-execute_object-shape_of-plans-in-At t c = (object_set c.requires _ c.plan_for-planned.ensures (search rules) c.in-At.is (rw c.planned_to.ensures at c.execute_selection_set.ensures)).left.kept.sized
+pub execute_object-shape_of-plans-in-Some : goal.execute_object-shape_of-plans-in-Some
+execute_object-shape_of-plans-in-Some t c = (object_set c.requires _ c.plan_for.ensures (search rules) (c.in-Ok.is ∙ ap Ok c.in-Some.is) (rw c.planned_to.ensures at c.execute_selection_set.ensures)).left.kept.sized
 
-pub execute_object-returns-in-At : goal.execute_object-returns-in-At
-execute_object-returns-in-At t c = object_set c.requires _ c.plan_for-planned.ensures (search rules) c.in-At.is (rw c.planned_to.ensures at c.execute_selection_set.ensures)
+pub execute_object-returns-in-Some : goal.execute_object-returns-in-Some
+execute_object-returns-in-Some t c = object_set c.requires _ c.plan_for.ensures (search rules) (c.in-Ok.is ∙ ap Ok c.in-Some.is) (rw c.planned_to.ensures at c.execute_selection_set.ensures)
 
-pub execute_object-returns-in_default : goal.execute_object-returns-in_default
-execute_object-returns-in_default t c = object_stops c.requires _ c.plan_for-planned.ensures (search rules) c.in_default.not-At c.in_default.not-NoRoom c.stop_code.ensures c.stopped.ensures
+pub execute_object-returns-in-Err : goal.execute_object-returns-in-Err
+execute_object-returns-in-Err t c = object_stops c.requires _ c.plan_for.ensures (search rules) c.in-Err.is c.stopped.ensures
 
 pub execute_selection_set-group_count-groups-requires : goal.execute_selection_set-group_count-groups-requires
 execute_selection_set-group_count-groups-requires t c = set_there c.requires
@@ -112,35 +110,32 @@ execute_selection_set-next_group-group-requires t c = set_tally c.requires c.gro
 pub execute_selection_set-enter_field-d-requires : goal.execute_selection_set-enter_field-d-requires
 execute_selection_set-enter_field-d-requires t c = (omega arith, set_field_ready c.requires c.group_count-groups.ensures refl c.clear_spans.ensures c.loop-taken.invariant c.loop-taken-test.true c.next_group-group.ensures refl)
 
-pub execute_selection_set-shape_of-text-in_default : goal.execute_selection_set-shape_of-text-in_default
-execute_selection_set-shape_of-text-in_default t c = set_text c.requires (set_lost c.requires c.group_count-groups.ensures refl c.clear_spans.ensures c.loop-taken.invariant c.loop-taken-test.true c.next_group-group.ensures c.past_choice.ensures c.enter_field-d.ensures c.in_default.is)
+pub execute_selection_set-shape_of-text-in-Err : goal.execute_selection_set-shape_of-text-in-Err
+execute_selection_set-shape_of-text-in-Err t c = set_text c.requires (set_lost c.requires c.group_count-groups.ensures refl c.clear_spans.ensures c.loop-taken.invariant c.loop-taken-test.true c.next_group-group.ensures c.past_choice.ensures c.enter_field-d.ensures c.in-Err.is)
 
-pub execute_selection_set-shape_of-errors-in_default : goal.execute_selection_set-shape_of-errors-in_default
-execute_selection_set-shape_of-errors-in_default t c = set_errors c.requires (set_lost c.requires c.group_count-groups.ensures refl c.clear_spans.ensures c.loop-taken.invariant c.loop-taken-test.true c.next_group-group.ensures c.past_choice.ensures c.enter_field-d.ensures c.in_default.is)
+pub execute_selection_set-shape_of-errors-in-Err : goal.execute_selection_set-shape_of-errors-in-Err
+execute_selection_set-shape_of-errors-in-Err t c = set_errors c.requires (set_lost c.requires c.group_count-groups.ensures refl c.clear_spans.ensures c.loop-taken.invariant c.loop-taken-test.true c.next_group-group.ensures c.past_choice.ensures c.enter_field-d.ensures c.in-Err.is)
 
-pub execute_selection_set-shape_of-plans-in_default : goal.execute_selection_set-shape_of-plans-in_default
-execute_selection_set-shape_of-plans-in_default t c = (set_lost c.requires c.group_count-groups.ensures refl c.clear_spans.ensures c.loop-taken.invariant c.loop-taken-test.true c.next_group-group.ensures c.past_choice.ensures c.enter_field-d.ensures c.in_default.is).left.kept.sized
+pub execute_selection_set-shape_of-plans-in-Err : goal.execute_selection_set-shape_of-plans-in-Err
+execute_selection_set-shape_of-plans-in-Err t c = (set_lost c.requires c.group_count-groups.ensures refl c.clear_spans.ensures c.loop-taken.invariant c.loop-taken-test.true c.next_group-group.ensures c.past_choice.ensures c.enter_field-d.ensures c.in-Err.is).left.kept.sized
 
-pub execute_selection_set-shape_of-spans-in_default : goal.execute_selection_set-shape_of-spans-in_default
-execute_selection_set-shape_of-spans-in_default t c = (set_lost c.requires c.group_count-groups.ensures refl c.clear_spans.ensures c.loop-taken.invariant c.loop-taken-test.true c.next_group-group.ensures c.past_choice.ensures c.enter_field-d.ensures c.in_default.is).left.unspanned.sized
+pub execute_selection_set-shape_of-spans-in-Err : goal.execute_selection_set-shape_of-spans-in-Err
+execute_selection_set-shape_of-spans-in-Err t c = (set_lost c.requires c.group_count-groups.ensures refl c.clear_spans.ensures c.loop-taken.invariant c.loop-taken-test.true c.next_group-group.ensures c.past_choice.ensures c.enter_field-d.ensures c.in-Err.is).left.unspanned.sized
 
-pub execute_selection_set-shape_of-hints-in_default : goal.execute_selection_set-shape_of-hints-in_default
-execute_selection_set-shape_of-hints-in_default t c = (set_lost c.requires c.group_count-groups.ensures refl c.clear_spans.ensures c.loop-taken.invariant c.loop-taken-test.true c.next_group-group.ensures c.past_choice.ensures c.enter_field-d.ensures c.in_default.is).left.hinted
+pub execute_selection_set-shape_of-hints-in-Err : goal.execute_selection_set-shape_of-hints-in-Err
+execute_selection_set-shape_of-hints-in-Err t c = (set_lost c.requires c.group_count-groups.ensures refl c.clear_spans.ensures c.loop-taken.invariant c.loop-taken-test.true c.next_group-group.ensures c.past_choice.ensures c.enter_field-d.ensures c.in-Err.is).left.hinted
 
-pub execute_selection_set-returns-in_default : goal.execute_selection_set-returns-in_default
-execute_selection_set-returns-in_default t c = rw (c.past_list.ensures, c.moved.ensures) (set_lost c.requires c.group_count-groups.ensures refl c.clear_spans.ensures c.loop-taken.invariant c.loop-taken-test.true c.next_group-group.ensures c.past_choice.ensures c.enter_field-d.ensures c.in_default.is)
+pub execute_selection_set-returns-in-Err : goal.execute_selection_set-returns-in-Err
+execute_selection_set-returns-in-Err t c = rw (c.past_list.ensures, c.moved.ensures) (set_lost c.requires c.group_count-groups.ensures refl c.clear_spans.ensures c.loop-taken.invariant c.loop-taken-test.true c.next_group-group.ensures c.past_choice.ensures c.enter_field-d.ensures c.in-Err.is)
 
 pub execute_selection_set-put_in_place-low-requires : goal.execute_selection_set-put_in_place-low-requires
 execute_selection_set-put_in_place-low-requires t c = set_room c.requires c.group_count-groups.ensures refl c.clear_spans.ensures c.loop-taken.invariant c.loop-taken-test.true c.next_group-group.ensures c.past_choice.ensures c.enter_field-d.ensures
-
-pub execute_selection_set-overflow_add-taken : goal.execute_selection_set-overflow_add-taken
-execute_selection_set-overflow_add-taken t c = omega (arith, c.loop-taken-test.true, c.requires.planned.right.few, c.group_count-groups.ensures)
 
 pub execute_selection_set-loop-taken-smaller : goal.execute_selection_set-loop-taken-smaller
 execute_selection_set-loop-taken-smaller t c = omega (arith, c.loop-taken-test.true)
 
 pub execute_selection_set-loop-taken-preserved : goal.execute_selection_set-loop-taken-preserved
-execute_selection_set-loop-taken-preserved t c = set_again c.requires c.group_count-groups.ensures refl c.clear_spans.ensures c.loop-taken.invariant c.loop-taken-test.true c.next_group-group.ensures c.past_choice.ensures c.enter_field-d.ensures c.in-Placed.is (search rules) c.put_in_place-low.ensures
+execute_selection_set-loop-taken-preserved t c = set_again c.requires c.group_count-groups.ensures refl c.clear_spans.ensures c.loop-taken.invariant c.loop-taken-test.true c.next_group-group.ensures c.past_choice.ensures c.enter_field-d.ensures c.in_default.is (search rules) c.put_in_place-low.ensures
 
 pub execute_selection_set-returns : goal.execute_selection_set-returns
 execute_selection_set-returns t c = rw c.placed.ensures (set_ended c.requires c.group_count-groups.ensures refl c.clear_spans.ensures c.loop-taken.invariant c.loop-taken-test.false c.close-end.ensures)

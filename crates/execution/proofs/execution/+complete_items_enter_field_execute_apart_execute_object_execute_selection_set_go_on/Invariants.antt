@@ -1,6 +1,7 @@
 -- The functions of the walk, by one induction: the segments that a path may still have fall. Assumes nothing.
 use Prim.Native.Nat.{◌+◌, ◌*◌, ◌-◌}
-use Rattle.resolving.specs.Sound.{asking}
+use Rattle.tables.specs.Tables.{lent}
+use Rattle.resolving.specs.Sound.{request_of}
 use Rattle.execution.proofs.Looping.{Itemizing}
 use Rattle.execution.proofs.Sets.{Grouping}
 use Rattle.execution.proofs.execution.+complete_items_enter_field_execute_apart_execute_object_execute_selection_set_go_on.Given as goal
@@ -24,7 +25,7 @@ abbrev pub decreases-go_on : goal.decreases-go_on
 decreases-go_on l = (32 - l.path.count) * 6 + 1
 
 abbrev pub invariant-complete_items-loop-i : goal.invariant-complete_items-loop-i
-invariant-complete_items-loop-i l = Itemizing (asking l.pool l.names l.type_refs l.types l.members l.fields l.arguments l.sets l.selections l.given l.fragments l.nodes l.literals l.variables l.answers) l.choices l.initial.text l.initial.errors l.initial.plans l.initial.spans l.initial.hints l.path l.initial.state l.plan l.group l.asked l.inner (record { first = l.first; count = l.count }) l.text l.errors l.plans l.spans l.hints l.state l.i
+invariant-complete_items-loop-i l = Itemizing (request_of (lent l.tables)) l.choices l.initial.text l.initial.errors l.initial.plans l.initial.spans l.initial.hints l.path l.initial.state l.plan l.group l.asked l.inner (record { first = l.first; count = l.count }) l.text l.errors l.plans l.spans l.hints l.state l.i
 
 abbrev pub invariant-execute_selection_set-loop-taken : goal.invariant-execute_selection_set-loop-taken
-invariant-execute_selection_set-loop-taken l = Grouping (asking l.pool l.names l.type_refs l.types l.members l.fields l.arguments l.sets l.selections l.given l.fragments l.nodes l.literals l.variables l.answers) l.choices l.initial.text l.initial.errors l.initial.plans l.initial.spans l.initial.hints l.path l.initial.state l.plan l.object l.rows l.text l.errors l.plans l.spans l.hints l.state l.groups l.base l.low l.taken
+invariant-execute_selection_set-loop-taken l = Grouping (request_of (lent l.tables)) l.choices l.initial.text l.initial.errors l.initial.plans l.initial.spans l.initial.hints l.path l.initial.state l.plan l.object l.rows l.text l.errors l.plans l.spans l.hints l.state l.groups l.base l.low l.taken

@@ -6,8 +6,8 @@ use Rattle.input_coercion.proofs.check.has_unknown_key.Goals as goal
 pub loop-i-init : goal.loop-i-init
 loop-i-init c = search keys
 
-pub returns-in_default : goal.returns-in_default
-returns-in_default c = search (keys, rules)
+pub returns-then-is_none : goal.returns-then-is_none
+returns-then-is_none c = search (keys, rules)
 
 pub loop-i-preserved : goal.loop-i-preserved
 loop-i-preserved c = search (keys, rules)

@@ -5,4 +5,4 @@ use Rattle.input_coercion.proofs.Keys.{unknown}
 use Rattle.input_coercion.proofs.check.has_unknown_key.Given as goal
 
 abbrev pub invariant-loop-i : goal.invariant-loop-i
-invariant-loop-i l = Seeking (unknown l.types l.fields l.literals l.ty) (record { first = l.first; count = l.count }) l.i
+invariant-loop-i l = Seeking (unknown l.tables.types.now l.tables.fields.now l.tables.literals.now l.ty) (record { first = l.first; count = l.count }) l.i

@@ -1,4 +1,6 @@
 -- The five functions of the walk, by one induction: the sets that may still be opened fall. Assumes nothing.
+use mathlib.Core.Path.{◌≡◌, refl}
+use Rattle.std.specs.Prelude.{Err}
 use native.Mathlib.Omega.{arith}
 use borrow.Author.Rules.{rules}
 use Rattle.introspection.proofs.Walk.{walk_on, child_none, child_checked, field_same, field_deep, field_raised, a_field, a_spread, an_inline, an_unknown}
@@ -46,32 +48,41 @@ check_selection-returns-in-Unknown t c = search selected
 pub check_selection_set-returns-then-room-eq0 : goal.check_selection_set-returns-then-room-eq0
 check_selection_set-returns-then-room-eq0 t c = search sets
 
-pub check_selection_set-returns-in_default : goal.check_selection_set-returns-in_default
-check_selection_set-returns-in_default t c = search sets
-
 pub check_selection_set-loop-i-preserved : goal.check_selection_set-loop-i-preserved
-check_selection_set-loop-i-preserved t c = search sets
+check_selection_set-loop-i-preserved t c =
+    let m = c.max-max_depth.ensures in
+    going_again _ _ _ _ _ _ _ _ c.loop-i.invariant (search rules) c.check_selection.ensures c.in_ok-depth.was (search rules)
+
+pub check_selection_set-returns-in_err-depth : goal.check_selection_set-returns-in_err-depth
+check_selection_set-returns-in_err-depth t c =
+    let e : c.from_residual.result ≡ Err c.in_err-depth.field-0.0 = search rules in
+    rw e (set_stopped _ _ _ _ _ _ (search rules) c.set_at-range.ensures c.loop-i.invariant (search rules) c.check_selection.ensures c.in_err-depth.was)
+
+pub check_spread-slice_copy_out-met : goal.check_spread-slice_copy_out-met
+check_spread-slice_copy_out-met t c = mark_there _ c.requires c.fragment_named-found.ensures c.in-Some.is
+
+pub check_spread-returns-then-rise-depth_so_far : goal.check_spread-returns-then-rise-depth_so_far
+check_spread-returns-then-rise-depth_so_far t c =
+    again_deep _ _ _ _ _ _ _ c.fragment_named-found.ensures c.in-Some.is refl c.in-Some-met.is c.requires.shallow (search rules)
+
+pub check_spread-returns-in-Some-met : goal.check_spread-returns-in-Some-met
+check_spread-returns-in-Some-met t c =
+    again_level _ _ _ _ _ _ _ c.fragment_named-found.ensures c.in-Some.is refl c.in-Some-met.is c.requires.shallow (search rules)
+
+pub check_spread-returns-in_err-depth : goal.check_spread-returns-in_err-depth
+check_spread-returns-in_err-depth t c =
+    let e : c.from_residual.result ≡ Err c.in_err-depth.field-0.0 = search rules in
+    rw e (spread_stopped _ _ _ _ _ _ _ c.fragment_named-found.ensures c.in-Some.is refl (search rules) c.fragment_at-fragment.ensures c.check_selection_set.ensures c.in_err-depth.was)
+
+pub check_spread-bounds-rises-at : goal.check_spread-bounds-rises-at
+check_spread-bounds-rises-at t c = mark_kept _ c.requires c.fragment_named-found.ensures c.in-Some.is c.check_selection_set.ensures
+
+pub check_spread-returns : goal.check_spread-returns
+check_spread-returns t c =
+    spread_met _ _ _ _ _ _ _ c.fragment_named-found.ensures c.in-Some.is refl (search rules) c.fragment_at-fragment.ensures c.check_selection_set.ensures c.requires c.in_ok-depth.was c.saturating_sub.ensures
 
 pub check_selection_set-returns : goal.check_selection_set-returns
 check_selection_set-returns t c = search sets
 
 pub check_spread-returns-in_default : goal.check_spread-returns-in_default
 check_spread-returns-in_default t c = search spreads
-
-pub check_spread-bounds-marks-at : goal.check_spread-bounds-marks-at
-check_spread-bounds-marks-at t c = search spreads
-
-pub check_spread-returns-then-mark-depth_so_far : goal.check_spread-returns-then-mark-depth_so_far
-check_spread-returns-then-mark-depth_so_far t c = search spreads
-
-pub check_spread-returns-then-mark-ne0 : goal.check_spread-returns-then-mark-ne0
-check_spread-returns-then-mark-ne0 t c = search spreads
-
-pub check_spread-returns-in_default-checked : goal.check_spread-returns-in_default-checked
-check_spread-returns-in_default-checked t c = search spreads
-
-pub check_spread-bounds-marks-at-2 : goal.check_spread-bounds-marks-at-2
-check_spread-bounds-marks-at-2 t c = search spreads
-
-pub check_spread-returns : goal.check_spread-returns
-check_spread-returns t c = search spreads

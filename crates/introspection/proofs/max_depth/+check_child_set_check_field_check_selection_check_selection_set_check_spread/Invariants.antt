@@ -19,4 +19,4 @@ abbrev pub decreases-check_spread : goal.decreases-check_spread
 decreases-check_spread l = l.room * 4 + 1
 
 abbrev pub invariant-check_selection_set-loop-i : goal.invariant-check_selection_set-loop-i
-invariant-check_selection_set-loop-i l = Going l.sets l.selections l.fragments (l.room - 1) l.depth_so_far l.first l.count l.initial.marks l.marks l.max_depth l.i
+invariant-check_selection_set-loop-i l = Going l.tables.sets.now l.tables.selections.now l.tables.fragments.now (l.room - 1) l.depth_so_far l.first l.count l.initial.rises l.rises l.max_depth l.i

@@ -1,16 +1,23 @@
--- By the cases of the enum: the code is the outcome's, the depth and the place stand in the case. Assumes nothing.
-use mathlib.Core.Path.{refl}
+-- By how the check ended: the code is the outcome's, the depth and the place stand in the case. Assumes nothing.
+use mathlib.Core.Path.{◌≡◌, refl}
+use Rattle.std.specs.Prelude.{Err}
+use borrow.Author.Rules.{rules}
 use Rattle.graphql.specs.Depth.{answered}
+use Rattle.introspection.specs.declared.max_depth.Unmeasured.TheVariants.{TooManySets, TooDeep}
 use Rattle.introspection.proofs.max_depth.answer.Goals as goal
 
-pub returns-in-TooManySets : goal.returns-in-TooManySets
+pub returns-in-Err-TooManySets : goal.returns-in-Err-TooManySets
 unfolding answered
-returns-in-TooManySets c = rw c.in-TooManySets.is (record { code = c.code.ensures; depth = refl; place = refl })
+returns-in-Err-TooManySets c =
+    let e : c.args.checked ≡ Err TooManySets = search rules in
+    rw (e, c.answered_by.ensures) (record { code = refl; depth = refl; place = refl })
 
-pub returns-in-TooDeep : goal.returns-in-TooDeep
+pub returns-in-Err-TooDeep : goal.returns-in-Err-TooDeep
 unfolding answered
-returns-in-TooDeep c = rw c.in-TooDeep.is (record { code = c.code-in-TooDeep.ensures; depth = refl; place = refl })
+returns-in-Err-TooDeep c =
+    let e : c.args.checked ≡ Err (TooDeep c.in-Err-TooDeep.place) = search rules in
+    rw (e, c.answered_by-in-Err-TooDeep.ensures) (record { code = refl; depth = refl; place = refl })
 
-pub returns-in-Depth : goal.returns-in-Depth
+pub returns-in-Ok : goal.returns-in-Ok
 unfolding answered
-returns-in-Depth c = rw c.in-Depth.is (record { code = c.code-in-Depth.ensures; depth = refl; place = refl })
+returns-in-Ok c = rw (c.in-Ok.is, c.answered_by-in-Ok.ensures) (record { code = refl; depth = refl; place = refl })

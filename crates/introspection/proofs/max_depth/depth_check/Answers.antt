@@ -4,7 +4,7 @@ use Rattle.introspection.proofs.Reports.{report_unlawful, report_walkable, repor
 use Rattle.introspection.proofs.max_depth.depth_check.Goals as goal
 
 pub returns-then-lawful-ne-LAWFUL : goal.returns-then-lawful-ne-LAWFUL
-returns-then-lawful-ne-LAWFUL c = report_unlawful _ c.table_check-lawful.ensures c.if-lawful-ne-LAWFUL.true c.code.ensures
+returns-then-lawful-ne-LAWFUL c = report_unlawful _ c.table_check-lawful.ensures c.if-lawful-ne-LAWFUL.true c.answered_by.ensures
 
 pub depth_of_operation-requires : goal.depth_of_operation-requires
 depth_of_operation-requires c = report_walkable (tables _ _ _ _ _ _ _ _ _ _ _ _ _ _ _ _) c.table_check-lawful.ensures c.if-lawful-ne-LAWFUL.false

@@ -8,8 +8,8 @@ returns-in_default c = search containing
 pub returns-in_default-type_named : goal.returns-in_default-type_named
 returns-in_default-type_named c = search containing
 
-pub returns-in_default-kind : goal.returns-in_default-kind
-returns-in_default-kind c = search containing
+pub returns-in_default-matches : goal.returns-in_default-matches
+returns-in_default-matches c = search containing
 
-pub returns : goal.returns
-returns c = search containing
+pub returns-in-InputObject : goal.returns-in-InputObject
+returns-in-InputObject c = search containing

@@ -10,6 +10,3 @@ returns-in-Name c = search spelling
 
 pub returns-in-Literal : goal.returns-in-Literal
 returns-in-Literal c = search spelling
-
-pub returns-in-Default : goal.returns-in-Default
-returns-in-Default c = search spelling

@@ -1,16 +1,11 @@
--- The members passed have other names; the first that has this one ends the search. Assumes nothing.
+-- The library's search goes through the same rows. Assumes nothing.
 use borrow.Author.Rules.{rules}
-use Rattle.lookup.proofs.Searching.{members}
+use borrow.Author.Tests.{tests}
+use Rattle.lookup.specs.Found.{is_named}
+use Rattle.lookup.proofs.Searching.{any_in_range}
 use Rattle.lookup.proofs.named.is_member.Goals as goal
 
-pub loop-i-init : goal.loop-i-init
-loop-i-init c = search members
-
-pub returns-then-is_same : goal.returns-then-is_same
-returns-then-is_same c = search (members, rules)
-
-pub loop-i-preserved : goal.loop-i-preserved
-loop-i-preserved c = search (members, rules)
-
 pub returns : goal.returns
-returns c = search (members, rules)
+returns c =
+    any_in_range (is_named c.args.tables.now.pool.now c.args.tables.now.names.now c.args.tables.now.members.now c.args.string.now) c.args.rows _
+    c.any.ensures.ran (λ row b h k. search (rules, tests))

@@ -17,5 +17,5 @@ loop-i-preserved c =
       | else-spans-base-eq0 w ↦ rw w.left-is (seek_taken c.loop-i.invariant c.loop-i-test.true w.if-spans-base-eq0.false)
     ]
 
-pub returns : goal.returns
-returns c = absurd (seek_end c.loop-i.invariant c.loop-i-test.false)
+pub unreachable-requires : goal.unreachable-requires
+unreachable-requires c = seek_end c.loop-i.invariant c.loop-i-test.false

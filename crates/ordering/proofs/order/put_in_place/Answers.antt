@@ -5,5 +5,5 @@ use Rattle.ordering.proofs.order.put_in_place.Goals as goal
 pub returns-then-group-low : goal.returns-then-group-low
 returns-then-group-low c = puts_low c.turn.ensures c.span-own.ensures c.if-group-low.true
 
-pub returns : goal.returns
-returns c = puts_else c.turn.ensures c.span-own.ensures c.if-group-low.false
+pub returns-else-group-low : goal.returns-else-group-low
+returns-else-group-low c = puts_else c.turn.ensures c.span-own.ensures c.if-group-low.false

@@ -1,5 +1,4 @@
 -- The groups passed have other keys. Assumes nothing.
-use Prim.Native.Nat.{◌-◌}
 use Rattle.planning.proofs.Words.{Seeking}
 use Rattle.planning.proofs.groups.group_with.Given as goal
 

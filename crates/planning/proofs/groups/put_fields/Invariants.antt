@@ -1,5 +1,5 @@
 -- The fields passed stand in their rows. Assumes nothing.
-use Prim.Native.Nat.{◌-◌, ◌≤◌}
+use Prim.Native.Nat.{◌≤◌}
 use Rattle.planning.specs.Plans.{PutFields}
 use Rattle.planning.proofs.groups.put_fields.Given as goal
 

@@ -1,19 +1,20 @@
 -- What is collected is put; where collecting stops, nothing is. Assumes nothing.
-use Rattle.planning.proofs.Found.{plans_stopped, plans_many, plans_made, gathered_puttable, looking_there}
+use mathlib.Core.Path.{◌≡◌}
+use Rattle.std.specs.Prelude.{Err}
+use Rattle.planning.proofs.Found.{plans_stopped, plans_made, gathered_puttable, looking_there}
 use borrow.Author.Rules.{rules}
 use Rattle.planning.proofs.plan.make_plan.Goals as goal
 
-pub collect_group-collecting-requires : goal.collect_group-collecting-requires
-collect_group-collecting-requires c = (search (c.requires.0.collectable, rules), looking_there c.requires.0)
+pub collect_group-requires : goal.collect_group-requires
+collect_group-requires c = (search (c.requires.0.collectable, rules), looking_there c.requires.0)
+
+pub returns-in_err-gathered : goal.returns-in_err-gathered
+returns-in_err-gathered c =
+    let e : c.from_residual.result ≡ Err c.in_err-gathered.field-0.0 = search rules in
+    rw e (plans_stopped c.requires.0 c.collect_group.ensures c.in_err-gathered.was)
 
 pub put_plan-requires : goal.put_plan-requires
-put_plan-requires c = search (gathered_puttable, c.requires.0, c.requires.1, c.collect_group-collecting.ensures, rules)
+put_plan-requires c = gathered_puttable c.requires.0 c.requires.1 c.collect_group.ensures c.in_ok-gathered.was
 
-pub returns-in-TooFar : goal.returns-in-TooFar
-returns-in-TooFar c = search (plans_stopped, c.requires.0, c.collect_group-collecting.ensures, rules)
-
-pub returns-in-TooManyFields : goal.returns-in-TooManyFields
-returns-in-TooManyFields c = search (plans_many, c.requires.0, c.collect_group-collecting.ensures, rules)
-
-pub returns-in-On : goal.returns-in-On
-returns-in-On c = search (plans_made, c.requires.0, c.requires.1, c.collect_group-collecting.ensures, c.put_plan.ensures, rules)
+pub returns : goal.returns
+returns c = plans_made c.requires.0 c.requires.1 c.collect_group.ensures c.in_ok-gathered.was c.put_plan.ensures

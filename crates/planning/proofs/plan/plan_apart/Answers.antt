@@ -1,19 +1,20 @@
 -- What is collected beneath the group is put; where collecting stops, nothing is. Assumes nothing.
-use Rattle.planning.proofs.Alone.{apart_puttable, apart_far, apart_many, apart_made}
+use mathlib.Core.Path.{◌≡◌}
+use Rattle.std.specs.Prelude.{Err}
+use Rattle.planning.proofs.Alone.{apart_puttable, apart_stopped, apart_made}
 use borrow.Author.Rules.{rules}
 use Rattle.planning.proofs.plan.plan_apart.Goals as goal
 
-pub collect_group-collecting-requires : goal.collect_group-collecting-requires
-collect_group-collecting-requires c = (search (c.requires.0.collectable, rules), c.requires.1)
+pub collect_group-requires : goal.collect_group-requires
+collect_group-requires c = (search (c.requires.0.collectable, rules), c.requires.1)
+
+pub returns-in_err-gathered : goal.returns-in_err-gathered
+returns-in_err-gathered c =
+    let e : c.from_residual.result ≡ Err c.in_err-gathered.field-0.0 = search rules in
+    rw e (apart_stopped c.requires.0 c.collect_group.ensures c.in_err-gathered.was)
 
 pub plan_set-requires : goal.plan_set-requires
-plan_set-requires c = search (apart_puttable, c.requires.0, c.collect_group-collecting.ensures, rules)
+plan_set-requires c = apart_puttable c.requires.0 c.collect_group.ensures c.in_ok-gathered.was
 
-pub returns-in-TooFar : goal.returns-in-TooFar
-returns-in-TooFar c = search (apart_far, c.requires.0, c.collect_group-collecting.ensures, rules)
-
-pub returns-in-TooManyFields : goal.returns-in-TooManyFields
-returns-in-TooManyFields c = search (apart_many, c.requires.0, c.collect_group-collecting.ensures, rules)
-
-pub returns-in-On : goal.returns-in-On
-returns-in-On c = search (apart_made, c.requires.0, c.collect_group-collecting.ensures, c.plan_set.ensures, rules)
+pub returns : goal.returns
+returns c = apart_made c.requires.0 c.collect_group.ensures c.in_ok-gathered.was c.plan_set.ensures

@@ -1,7 +1,6 @@
 -- The one that a hint leads to, or a new one. Assumes nothing.
 use native.Mathlib.Omega.{arith}
-use Rattle.planning.proofs.Found.{plans_found, plans_none, plans_as, made_fits}
-use borrow.Author.Rules.{rules}
+use Rattle.planning.proofs.Found.{plans_found, plans_none}
 use Rattle.planning.proofs.plan.plan_for.Goals as goal
 
 pub overflow_cast-hint : goal.overflow_cast-hint
@@ -12,9 +11,3 @@ returns-then-is_plan_for c = plans_found c.requires.0 c.is_plan_for.ensures c.if
 
 pub returns-then-plans-top : goal.returns-then-plans-top
 returns-then-plans-top c = plans_none c.requires.0
-
-pub overflow_cast-hints : goal.overflow_cast-hints
-overflow_cast-hints c = search (made_fits, c.requires.0, c.make_plan-planned.ensures, rules)
-
-pub returns : goal.returns
-returns c = search (plans_as, c.requires.0, c.make_plan-planned.ensures, rules)

@@ -1,19 +1,20 @@
 -- What is collected of the operation's set is put; where collecting stops, nothing is. Assumes nothing.
-use Rattle.planning.proofs.Alone.{operation_gathering, alone_puttable, alone_far, alone_many, alone_made}
+use mathlib.Core.Path.{◌≡◌}
+use Rattle.std.specs.Prelude.{Err}
+use Rattle.planning.proofs.Alone.{operation_gathering, alone_puttable, alone_stopped, alone_made}
 use borrow.Author.Rules.{rules}
 use Rattle.planning.proofs.plan.plan_operation.Goals as goal
 
-pub collect_operation-collecting-requires : goal.collect_operation-collecting-requires
-collect_operation-collecting-requires c = c.requires.collectable _ (search rules)
+pub collect_operation-requires : goal.collect_operation-requires
+collect_operation-requires c = c.requires.collectable _ (search rules)
+
+pub returns-in_err-gathered : goal.returns-in_err-gathered
+returns-in_err-gathered c =
+    let e : c.from_residual.result ≡ Err c.in_err-gathered.field-0.0 = search rules in
+    rw e (alone_stopped c.requires (operation_gathering c.collect_operation.ensures (search rules)) c.in_err-gathered.was)
 
 pub plan_set-requires : goal.plan_set-requires
-plan_set-requires c = search (alone_puttable, c.requires, operation_gathering c.collect_operation-collecting.ensures (search rules), rules)
+plan_set-requires c = alone_puttable c.requires (operation_gathering c.collect_operation.ensures (search rules)) c.in_ok-gathered.was
 
-pub returns-in-TooFar : goal.returns-in-TooFar
-returns-in-TooFar c = search (alone_far, c.requires, operation_gathering c.collect_operation-collecting.ensures (search rules), rules)
-
-pub returns-in-TooManyFields : goal.returns-in-TooManyFields
-returns-in-TooManyFields c = search (alone_many, c.requires, operation_gathering c.collect_operation-collecting.ensures (search rules), rules)
-
-pub returns-in-On : goal.returns-in-On
-returns-in-On c = search (alone_made, c.requires, operation_gathering c.collect_operation-collecting.ensures (search rules), c.plan_set.ensures, rules)
+pub returns : goal.returns
+returns c = alone_made c.requires (operation_gathering c.collect_operation.ensures (search rules)) c.in_ok-gathered.was c.plan_set.ensures

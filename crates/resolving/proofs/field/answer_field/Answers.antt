@@ -1,18 +1,11 @@
 -- By how the arguments end. Assumes nothing.
-use Rattle.resolving.proofs.Answers.{arguments_fail, arguments_too_far, arguments_variable, arguments_coerced}
-use borrow.Author.Rules.{rules}
+use Rattle.std.proofs.lemmas.Result.{err_from_is_err_and}
+use Rattle.resolving.proofs.Answers.{arguments_lost, arguments_coerced}
 use Rattle.resolving.proofs.field.answer_field.Goals as goal
 
-ruleset answering = (arguments_fail, arguments_too_far, arguments_variable, arguments_coerced, rules)
+pub returns-in_err-coerce_argument_values : goal.returns-in_err-coerce_argument_values
+returns-in_err-coerce_argument_values c = let p = err_from_is_err_and c.from_residual.result c.from_residual.ensures.1 in rw (p.1, p.2)
+    (arguments_lost c.coerce_argument_values.ensures c.in_err-coerce_argument_values.was)
 
-pub returns-in-Value : goal.returns-in-Value
-returns-in-Value c = search answering
-
-pub returns-in-Failed : goal.returns-in-Failed
-returns-in-Failed c = search answering
-
-pub returns-in-TooFar : goal.returns-in-TooFar
-returns-in-TooFar c = search answering
-
-pub returns-in-VariableInLiteral : goal.returns-in-VariableInLiteral
-returns-in-VariableInLiteral c = search answering
+pub returns : goal.returns
+returns c = arguments_coerced c.coerce_argument_values.ensures c.requires.coercible.1 c.in_ok-coerce_argument_values.was c.resolve_field_value.ensures c.answer_of.ensures

@@ -5,8 +5,8 @@ use Rattle.resolving.proofs.field.deepen.Goals as goal
 
 ruleset deepening = (opened_fails, opened_deepens, rules)
 
-pub returns-in-Error : goal.returns-in-Error
-returns-in-Error c = search deepening
+pub returns-in-Err : goal.returns-in-Err
+returns-in-Err c = search deepening
 
-pub returns-in-Container : goal.returns-in-Container
-returns-in-Container c = search deepening
+pub returns-in-Ok : goal.returns-in-Ok
+returns-in-Ok c = search deepening

@@ -1,12 +1,11 @@
 -- By what its type came to. Assumes nothing.
+use Rattle.std.proofs.lemmas.Result.{err_from_is_err_and}
 use Rattle.resolving.proofs.Opened.{object_fails, object_opens}
-use borrow.Author.Rules.{rules}
 use Rattle.resolving.proofs.field.open_object.Goals as goal
 
-ruleset opening = (object_fails, object_opens, rules)
+pub returns-in_err-object : goal.returns-in_err-object
+returns-in_err-object c = let p = err_from_is_err_and c.from_residual.result c.from_residual.ensures.1 in rw (p.1, p.2)
+    (object_fails c.object_type.ensures c.in_err-object.was)
 
-pub returns-in-Error : goal.returns-in-Error
-returns-in-Error c = search opening
-
-pub returns-in-Type : goal.returns-in-Type
-returns-in-Type c = search opening
+pub returns : goal.returns
+returns c = object_opens c.object_type.ensures c.requires.1 c.in_ok-object.was

@@ -8,8 +8,8 @@ ruleset resolving = (field_unanswered, field_resolved, rules)
 pub resolve_row-requires : goal.resolve_row-requires
 resolve_row-requires c = record { askable = c.requires.askable.0; leads = c.requires.askable.1 _ }
 
-pub returns-in-None : goal.returns-in-None
-returns-in-None c = search resolving
+pub returns-in_default : goal.returns-in_default
+returns-in_default c = search resolving
 
-pub returns-in-Some : goal.returns-in-Some
-returns-in-Some c = search resolving
+pub returns : goal.returns
+returns c = search resolving

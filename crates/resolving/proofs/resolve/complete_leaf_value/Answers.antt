@@ -12,15 +12,12 @@ judge_leaf-requires c = search (rules, c.requires)
 pub fail-requires : goal.fail-requires
 fail-requires c = search (rules, c.requires)
 
-pub returns-in-Fits : goal.returns-in-Fits
-returns-in-Fits c = search leaf_fits
+pub returns-in-Ok : goal.returns-in-Ok
+returns-in-Ok c = leaf_fits c.put_leaf.ensures c.in-Some.is c.leaf_sort-sort.ensures c.leaf_string-string.ensures c.judge_leaf.ensures c.in-Ok.is c.placed.ensures
 
-pub shape_of-text-in-Error : goal.shape_of-text-in-Error
-shape_of-text-in-Error c = search (rules, c.put_leaf-written.ensures)
+pub shape_of-text-in-Err : goal.shape_of-text-in-Err
+shape_of-text-in-Err c = search (rules, c.put_leaf.ensures)
 
-pub returns-in-Error : goal.returns-in-Error
-returns-in-Error c = leaf_error c.put_leaf-written.ensures
-    c.in-At.is
-    c.leaf_sort-sort.ensures
-    c.leaf_string-string.ensures
-    c.judge_leaf.ensures c.in-Error.is (search rules) c.fail.ensures
+pub returns-in-Err : goal.returns-in-Err
+returns-in-Err c = leaf_error c.put_leaf.ensures c.in-Some.is c.leaf_sort-sort.ensures c.leaf_string-string.ensures c.judge_leaf.ensures c.in-Err.is (search rules)
+    c.fail.ensures

@@ -2,8 +2,8 @@
 use Rattle.running.proofs.Ended.{end_placed, end_stopped, end_failed}
 use Rattle.running.proofs.report.report_end.Goals as goal
 
-pub returns-in_default : goal.returns-in_default
-returns-in_default c = search end_placed
+pub returns-in-Ok : goal.returns-in-Ok
+returns-in-Ok c = search end_placed
 
 pub returns-in-Stop : goal.returns-in-Stop
 returns-in-Stop c = search end_stopped

@@ -1,11 +1,10 @@
 -- Each token is a byte long at least. Assumes nothing.
 use Prim.Native.Nat.{◌≤◌, ◌-◌}
 use lib.ListN.{length}
-use Rattle.table_file.specs.Sizes.{Within}
 use Rattle.table_file.proofs.row.tokens.Given as goal
 
 abbrev pub invariant-loop-at : goal.invariant-loop-at
-invariant-loop-at l = (l.from ≤ l.at) × (l.at ≤ length l.text) × Within l.sizes
+invariant-loop-at l = (l.from ≤ l.at) × (l.at ≤ length l.text)
 
 abbrev pub decreases-loop-at : goal.decreases-loop-at
 decreases-loop-at l = length l.text - l.at

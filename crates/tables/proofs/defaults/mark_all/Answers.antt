@@ -1,20 +1,8 @@
 -- From the last row on the runs are right; the parts of a literal come later, and theirs are kept already. Assumes nothing.
-use mathlib.Core.Path.{◌≡◌}
-use Prim.Native.Nat.{◌+◌, ◌-◌}
-use Rattle.tables.proofs.Closed.{mark_turn, mark_end}
+use Rattle.tables.proofs.Closed.{mark_turn}
 use borrow.Author.Rules.{rules}
 use native.Mathlib.Omega.{arith}
 use Rattle.tables.proofs.defaults.mark_all.Goals as goal
 
-pub loop-row-init : goal.loop-row-init
-loop-row-init c = (search rules, rw c.row_count-row.ensures c.requires.marked)
-
-pub mark_row-requires : goal.mark_row-requires
-mark_row-requires c = let same : c.loop-row.row - 1 + 1 ≡ c.loop-row.row = omega arith in
-    record { row_bound = (omega (arith, c.loop-row.invariant.0), omega (arith, c.loop-row.invariant.0, c.requires.nested.few)); marked = rw same c.loop-row.invariant.1 }
-
 pub loop-row-preserved : goal.loop-row-preserved
 loop-row-preserved c = (search rules, mark_turn c.args.literals.now c.requires.nested _ _ c.loop-row.row (omega arith) c.loop-row.invariant.0 c.loop-row.invariant.1 c.mark_row.ensures)
-
-pub returns : goal.returns
-returns c = mark_end _ _ c.loop-row.row c.loop-row-test.false c.loop-row.invariant.1

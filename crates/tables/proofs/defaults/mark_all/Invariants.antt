@@ -7,6 +7,3 @@ use Rattle.tables.proofs.defaults.mark_all.Given as goal
 
 abbrev pub invariant-loop-row : goal.invariant-loop-row
 invariant-loop-row l = (l.row ≤ rows_of l.literals literal_width) × Marked l.literals l.runs l.row
-
-abbrev pub decreases-loop-row : goal.decreases-loop-row
-decreases-loop-row l = l.row

@@ -9,6 +9,3 @@ use Rattle.tables.proofs.document.each_set_holds.Given as goal
 
 abbrev pub invariant-loop-set : goal.invariant-loop-set
 invariant-loop-set l = (l.set ≤ rows_of l.sets set_width) × Skips l.selections l.set l.skips × ((k : ℕ) → l.set ≤ k → k < rows_of l.sets set_width → set_holds l.sets l.selections k ≡ true)
-
-abbrev pub decreases-loop-set : goal.decreases-loop-set
-decreases-loop-set l = l.set

@@ -1,16 +1,6 @@
 use borrow.Author.Rules.{rules}
-use Rattle.rows.proofs.Every.{all_none, all_more, all_broken, all_ended}
+use Rattle.rules.proofs.Ranges.{all_in_range}
 use Rattle.tables.proofs.schema.each_name_holds.Goals as goal
 
-pub loop-row-init : goal.loop-row-init
-loop-row-init c = (search rules, all_none _)
-
-pub returns-then-not-name_holds : goal.returns-then-not-name_holds
-returns-then-not-name_holds c = rw (← c.row_count-count.ensures)
-    (all_broken _ c.loop-row.row _ c.name_holds.result c.loop-row-test.true c.name_holds.ensures c.if-not-name_holds.true-raw)
-
-pub loop-row-preserved : goal.loop-row-preserved
-loop-row-preserved c = (search rules, all_more _ c.loop-row.row c.name_holds.result c.loop-row.invariant.1 c.name_holds.ensures c.if-not-name_holds.false-raw)
-
 pub returns : goal.returns
-returns c = rw (← c.row_count-count.ensures) (all_ended _ c.loop-row.row _ c.loop-row.invariant.1 c.loop-row.invariant.0 c.loop-row-test.false)
+returns c = rw (← c.row_count-count.ensures) (all_in_range _ _ c.all.ensures.ran (λ row b h k. search rules))

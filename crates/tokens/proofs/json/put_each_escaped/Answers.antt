@@ -2,15 +2,12 @@
 use mathlib.Core.Path.{refl}
 use Rattle.tokens.specs.Escape.{escaped, escaped_all}
 use Rattle.tokens.proofs.EscapeLaws.{escaped_all_snoc}
-use Rattle.writing.proofs.Putting.{put_begin, put_again, put_end}
+use Rattle.writing.proofs.Putting.{put_begin, put_again}
 use Rattle.tokens.proofs.json.put_each_escaped.Goals as goal
 
-pub loop-i-init : goal.loop-i-init
+pub loop-b-init : goal.loop-b-init
 unfolding escaped_all
-loop-i-init c = put_begin refl _ _ _
+loop-b-init c = put_begin refl _ _ _
 
-pub loop-i-preserved : goal.loop-i-preserved
-loop-i-preserved c = put_again escaped escaped_all_snoc c.loop-i.invariant c.loop-i-test.true c.put_escaped-next.ensures
-
-pub returns : goal.returns
-returns c = put_end c.loop-i.invariant c.loop-i-test.false
+pub loop-b-preserved : goal.loop-b-preserved
+loop-b-preserved c = put_again escaped escaped_all_snoc c.loop-b.invariant c.loop-b-test.true c.put_escaped-next.ensures

@@ -7,11 +7,9 @@ use Rattle.tokens.proofs.json.put_escaped.Goals as goal
 pub returns-then-is_plain : goal.returns-then-is_plain
 returns-then-is_plain c = same (sym (escaped_plain _ (sym c.is_plain.ensures ∙ c.if-is_plain.true))) c.put.ensures
 
-pub returns-then-letter-gt0 : goal.returns-then-letter-gt0
-returns-then-letter-gt0 c = same (sym (escaped_letter _ c.escape_letter-letter.ensures c.if-letter-gt0.true))
-    (cons c.put-next.ensures c.put-then-letter-gt0.ensures)
+pub returns-in-Some : goal.returns-in-Some
+returns-in-Some c = same (sym (escaped_letter _ (sym c.escape_letter.ensures ∙ c.in-Some.is))) (cons c.put-next.ensures c.put-in-Some.ensures)
 
-pub returns : goal.returns
-returns c = same (sym (escaped_control _ (sym c.is_plain.ensures ∙ c.if-is_plain.false)
-    c.escape_letter-letter.ensures c.if-letter-gt0.false))
+pub returns-in-None : goal.returns-in-None
+returns-in-None c = same (sym (escaped_control _ (sym c.is_plain.ensures ∙ c.if-is_plain.false) (sym c.escape_letter.ensures ∙ c.in-None.is)))
     c.put_code_point_escape.ensures

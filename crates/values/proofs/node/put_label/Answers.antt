@@ -2,8 +2,8 @@
 use Rattle.values.proofs.Labels.{labels}
 use Rattle.values.proofs.node.put_label.Goals as goal
 
-pub returns-then-keyed : goal.returns-then-keyed
-returns-then-keyed c = search labels
+pub returns-in_default : goal.returns-in_default
+returns-in_default c = search labels
 
 pub returns : goal.returns
 returns c = search labels

@@ -1,8 +1,0 @@
--- A test is an answer. Assumes nothing.
-use Rattle.completing.proofs.result_coercion.object_if.Goals as goal
-
-pub returns-then-ok : goal.returns-then-ok
-returns-then-ok c = rw c.if-ok.true
-
-pub returns : goal.returns
-returns c = rw c.if-ok.false

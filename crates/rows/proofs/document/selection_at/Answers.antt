@@ -1,6 +1,0 @@
-use Rattle.rows.specs.Document.{selection_at}
-use Rattle.rows.proofs.document.selection_at.Goals as goal
-
-pub returns : goal.returns
-unfolding selection_at
-returns c = rw (c.what_is_selected-what.ensures, c.cell-place.ensures, c.condition_of-include.ensures, c.cell-2.ensures, c.condition_of-skip.ensures, c.cell.ensures)

@@ -1,6 +1,0 @@
-use Rattle.rows.specs.Schema.{type_ref_at}
-use Rattle.rows.proofs.schema.type_ref_at.Goals as goal
-
-pub returns : goal.returns
-unfolding type_ref_at
-returns c = rw (c.type_ref_of.ensures, c.cell-of.ensures, c.cell-non_null.ensures, c.cell-kind.ensures)

@@ -1,6 +1,0 @@
--- All bytes fit into the pool before the first is copied. Assumes nothing.
-use Prim.Native.Nat.{◌≤◌, ◌-◌}
-use Rattle.table_file.proofs.row.repeat_bytes.Given as goal
-
-abbrev pub invariant-loop-k : goal.invariant-loop-k
-invariant-loop-k l = l.count ≤ l.k
