@@ -81,14 +81,14 @@ fn decode_sequence<const N: usize>(s: &[u8], at: usize) -> Option<Decoded>
     }
 }
 
-// The character at `at`, of more than one byte: as many as the ones that its first byte begins with. Each length has a
-// function of its own, so that the compiler makes straight code for it.
+// The character at `at`, of more than one byte: as many as the ones that its first byte begins with, which are the leading
+// zeros of its complement. Each length has a function of its own, so that the compiler makes straight code for it.
 fn decode(s: &[u8], at: usize) -> Option<Decoded>
     requires at_in_bounds { at < length s.now }
     requires bound { 0x80 ≤ get_or s.now at 0 }
     ensures { Decodes s.now at result }
 {
-    match s[at].leading_ones() {
+    match (!s[at]).leading_zeros() {
         2 => decode_sequence::<2>(s, at),
         3 => decode_sequence::<3>(s, at),
         4 => decode_sequence::<4>(s, at),
@@ -101,6 +101,7 @@ pub fn is_utf8(s: &[u8]) -> bool
     ensures { result ≡ is_utf8 s.now }
 {
     let mut at = 0;
+    // A `while`: a turn goes on by a run or by a character, and no range or iterator of the library takes such steps.
     while at < s.len() {
         if s[at].is_ascii() {
             at = past_ascii(s, at);

@@ -48,10 +48,13 @@ part_reversed t r a b h q =
     rw (q, front, back) refl
 
 -- the three reversals, of a list given as its four parts
-three_reversals : (p x y z : List ℕ) (a b e : ℕ) → length p ≡ a → length p + length x ≡ b → length p + length x + length y ≡ e → reversed a e (reversed b e (reversed a b (p ++ (x ++ (y ++ z))))) ≡ p ++ (y ++ (x ++ z))
+three_reversals : (p x y z : List ℕ) (a b e : ℕ) → length p ≡ a → length p + length x ≡ b → length p + length x + length y ≡ e
+    → reversed a e (reversed b e (reversed a b (p ++ (x ++ (y ++ z))))) ≡ p ++ (y ++ (x ++ z))
 three_reversals p x y z a b e ha hb he =
     ap (λ (w : List ℕ). reversed a e (reversed b e w)) (reversed_middle p x (y ++ z) a b ha hb ∙ sym (append_assoc p (reverse x) (y ++ z)))
-    ∙ ap (reversed a e) (reversed_middle (p ++ reverse x) y z b e (simp (length-append, length-reverse) (omega arith)) (simp (length-append, length-reverse) (omega arith)) ∙ append_assoc p (reverse x) (reverse y ++ z) ∙ ap (λ (w : List ℕ). p ++ w) (sym (append_assoc (reverse x) (reverse y) z)))
+    ∙ ap (reversed a e)
+    (reversed_middle (p ++ reverse x) y z b e (simp (length-append, length-reverse) (omega arith)) (simp (length-append, length-reverse) (omega arith))
+    ∙ append_assoc p (reverse x) (reverse y ++ z) ∙ ap (λ (w : List ℕ). p ++ w) (sym (append_assoc (reverse x) (reverse y) z)))
     ∙ reversed_middle p (reverse x ++ reverse y) z a e ha (simp (length-append, length-reverse) (omega arith))
     ∙ ap (λ (w : List ℕ). p ++ (w ++ z)) (reverse_twice x y)
     ∙ ap (λ (w : List ℕ). p ++ w) (append_assoc y x z)
@@ -66,7 +69,8 @@ four_parts t a b e h₁ h₂ =
 length_part : (t : List ℕ) (a b : ℕ) → b ≤ length t → length (slice a b t) ≡ b - a
 length_part t a b h = length-slice a b t h
 
-pub rotated_by_reversals : (t : List ℕ) {t1 t2 t3 : List ℕ} (a b e : ℕ) → (a ≤ b) × (b ≤ e) × (e ≤ length t) → t1 ≡ reversed a b t → t2 ≡ reversed b e t1 → t3 ≡ reversed a e t2 → t3 ≡ rotated a b e t
+pub rotated_by_reversals : (t : List ℕ) {t1 t2 t3 : List ℕ} (a b e : ℕ) → (a ≤ b) × (b ≤ e) × (e ≤ length t)
+    → t1 ≡ reversed a b t → t2 ≡ reversed b e t1 → t3 ≡ reversed a e t2 → t3 ≡ rotated a b e t
 rotated_by_reversals t a b e h p q r =
     let x = length-take-le a t (omega arith) in
     let y = length_part t a b (omega arith) in

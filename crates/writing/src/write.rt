@@ -1,5 +1,6 @@
 // What is put into a buffer, one element or a run. What a position means is said at `Wrote`, and what is put at `Writes`, both in
-// specs/Wrote.antt.
+// specs/Wrote.antt. A position goes beside its buffer and not with it into a struct: a walk keeps positions to go back to, and
+// `close` and `turn_into_place` take more than one of the same buffer.
 ghost use Rattle.std.specs.Prelude.{◌≡◌, [], ◌∷◌, ◌+◌, ◌≤◌, length, take, drop};
 ghost use Rattle.writing.specs.Wrote.{Writes};
 

@@ -37,9 +37,6 @@ module _ (s : List ℕ) (gathered i : ℕ) (inv : ltb gathered 0x80 ≡ is_ascii
   gathered_more h =
       rw (add-one, take-suc s i 0, ascii_append, high_kept, inv) (ap (λ (b : Bool). is_ascii (take i s) && b) (sym (and-true (ltb (get_or s i 0) 0x80))))
 
-  pub gathered_all : (r : Bool) → length s ≤ i → r ≡ ltb gathered 0x80 → r ≡ is_ascii s
-  gathered_all r h e = e ∙ inv ∙ ap is_ascii (take_all i s h)
-
 pub gathered_none : (s : List ℕ) → ltb 0 0x80 ≡ is_ascii (take 0 s)
 unfolding is_ascii
 gathered_none s = refl
@@ -65,14 +62,6 @@ module _ (s : List ℕ) (n from at : ℕ) (passed : AsciiBlocks s n from at) whe
         inside = omega arith;
         ascii = ascii_behind (at + n) (omega arith) (sym e ∙ t);
       }
-
-  blocks_other : (r : Bool) → r ≡ is_ascii (take (at + n - at) (drop at s)) → r ≡ false → PastAscii s n from at
-  blocks_other r e t =
-      let size : at + n - at ≡ n = omega arith in
-      record { passed = passed; stopped = λ h. ap (λ (k : ℕ). is_ascii (take k (drop at s))) (sym size) ∙ sym e ∙ t }
-
-  blocks_over : length s - at < n → PastAscii s n from at
-  blocks_over h = record { passed = passed; stopped = λ k. let z : ⊥ = omega arith in absurd z }
 
   -- blocks of another size behind them
   blocks_behind : (m next : ℕ) → AsciiBlocks s m at next → AsciiBlocks s 1 from next
@@ -111,9 +100,6 @@ module _ (s : List ℕ) (size from at : ℕ) (left : List ℕ) (step : ℕ) (g :
     room : size ≤ length s - at
     room = omega (arith, g.whole, long, length-append block left', ap length cut, ap length g.behind, length-drop at s)
 
-    pub pass_fits : at + size ≤ length s
-    pass_fits = omega (arith, room, g.passed.inside)
-
     here : take size (drop at s) ≡ block
     here = rw (← g.behind, cut) (take_at block left' size (long ∙ g.whole))
 
@@ -125,14 +111,6 @@ module _ (s : List ℕ) (size from at : ℕ) (left : List ℕ) (step : ℕ) (g :
           behind = sym (drop_at block left' size (long ∙ g.whole)) ∙ ap (drop size) (sym cut ∙ g.behind) ∙ drop-drop size at s;
           whole = w ∙ g.whole;
         }
-
-    pub pass_other : (r : Bool) → r ≡ is_ascii block → r ≡ false → PastAscii s size from at
-    pass_other r e t =
-        let n : at + size - at ≡ size = omega arith in
-        blocks_other s size from at g.passed r (rw (n, here) e) t
-
-  pub pass_over : length left < step → PastAscii s size from at
-  pass_over h = blocks_over s size from at g.passed (omega (arith, g.whole, ap length g.behind, length-drop at s))
 
 -- blocks of any two sizes, and then octet by octet
 pub past_all : (s : List ℕ) (n m from long short next : ℕ)

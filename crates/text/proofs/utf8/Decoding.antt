@@ -1,7 +1,7 @@
 -- A sequence while its continuation octets are read: what is still to come decides as `completes` says, and each octet that is
 -- read is taken off its front. One law for each way through `decode_sequence`, `decode` and `is_utf8`.
 -- Assumes nothing.
-use mathlib.Core.Path.{◌≡◌, refl, sym, ap, ◌∙◌, subst}
+use mathlib.Core.Path.{◌≡◌, refl, sym, ap, ◌∙◌}
 use mathlib.Core.Bool.{Bool, true, false, not, ◌&&◌, and-false, true≢false}
 use mathlib.Core.Logic.{⊎_elim}
 use mathlib.Core.List.{List, [], ◌∷◌}
@@ -14,9 +14,7 @@ use lib.Seq.{drop-drop}
 use Rattle.text.specs.Grammar.{◌∈◌}
 use Rattle.text.specs.Utf8.{UTF8-tail, is_utf8, octets_after, Leads, two, three, four, single, beyond, lead_bits, allowed, character_number}
 use Rattle.text.specs.Ascii.{is_ascii}
-use Rattle.text.specs.Found.{PastAscii, ReadChar, Decodes}
-use Rattle.text.specs.declared.utf8.Decoded.{Decoded}
-use Rattle.std.specs.Prelude.{Option, Some, None}
+use Rattle.text.specs.Found.{PastAscii, ReadChar}
 use Rattle.text.proofs.Reading.{drop_here, drop_over, le_or_lt}
 use mir.Syntax.{w8}
 use Rattle.std.specs.Int.{leading_ones}
@@ -104,13 +102,6 @@ completes_short n (suc k) p (b ∷ t) h =
     ap (λ (x : Bool). (b ∈ UTF8-tail) && x) (completes_short n k (p * 64 + b % 64) t (omega arith)) ∙ and-false (b ∈ UTF8-tail)
 
 -- ---- the ways through `decode_sequence`
-
-pub leads_small : (a n : ℕ) → Leads a n → n < 7
-leads_small a n (two h k) = omega arith
-leads_small a n (three h k) = omega arith
-leads_small a n (four h k) = omega arith
-leads_small a n (single h) = omega arith
-leads_small a n (beyond h) = omega arith
 
 module _ (s : List ℕ) (at : ℕ) (inside : at < length s) where
   module _ (n : ℕ) (leads : Leads (get_or s at 0) n) (led : 0 < n) where
@@ -217,20 +208,6 @@ module _ (s : List ℕ) (at next : ℕ) (past : PastAscii s 1 at next) where
       absurd (true≢false z))
       (λ (p : at < next). omega arith)
       (le_or_lt next at)
-
-module _ (s : List ℕ) (at : ℕ) (found : Option Decoded) (decodes : Decodes s at found) where
-  module _ (character : Decoded) (e : found ≡ Some character) where
-    read_char : ReadChar s at character.point character.next
-    read_char = subst (λ (d : Option Decoded). Decodes s at d) e decodes
-
-    pub utf8_nearer : at < length s → length s - character.next < length s - at
-    utf8_nearer h = let char = read_char in omega arith
-
-    pub utf8_more : is_utf8 s ≡ is_utf8 (drop at s) → is_utf8 s ≡ is_utf8 (drop character.next s)
-    utf8_more inv = inv ∙ read_char.same
-
-  pub utf8_broken : found ≡ None → is_utf8 s ≡ is_utf8 (drop at s) → false ≡ is_utf8 s
-  utf8_broken e inv = sym (inv ∙ subst (λ (d : Option Decoded). Decodes s at d) e decodes)
 
 pub utf8_ended : (s : List ℕ) (at : ℕ) → is_utf8 s ≡ is_utf8 (drop at s) → length s ≤ at → true ≡ is_utf8 s
 unfolding is_utf8 octets_after

@@ -4,12 +4,11 @@
 use mathlib.Core.Path.{◌≡◌, refl, sym, ap, ◌∙◌, subst}
 use mathlib.Core.Bool.{Bool, true, false, cond, not}
 use mathlib.Core.Logic.{⊎_elim}
-use Prim.Native.Nat.{ℕ, ◌+◌, ◌-◌, ◌*◌, ◌/◌, ◌%◌, ◌^◌, ◌≤◌, ◌<◌}
-use native.Mathlib.Nat.{mod-eq_of_lt}
+use Prim.Native.Nat.{ℕ, ◌+◌, ◌-◌, ◌*◌, ◌/◌, ◌^◌, ◌≤◌, ◌<◌}
 use native.Mathlib.Omega.{arith}
 use borrow.Author.Tests.{le-leb, lt-leb, ne_eqb, not-true}
 use lib.Dec.{leb, eqb}
-use lib.Bits.{bit_and, bit_or, and_mask, or_shifted}
+use lib.Bits.{bit_and, and_mask}
 use lib.Pow.{ones_split, high, ones_lt}
 use lib.Count.{count_leading_zeros}
 use mir.Syntax.{w8}
@@ -68,12 +67,6 @@ lead_masked n a h =
     let wide : 127 ≡ (2 ^ (7 - n) - 1) * 2 ^ n + (2 ^ n - 1) = subst (λ (k : ℕ). 2 ^ k - 1 ≡ (2 ^ (7 - n) - 1) * 2 ^ n + (2 ^ n - 1)) sum (ones_split (7 - n) n) in
     let mask : 127 / 2 ^ n ≡ 2 ^ (7 - n) - 1 = ap (λ (k : ℕ). k / 2 ^ n) wide ∙ high (2 ^ (7 - n) - 1) n (ones_lt n) in
     ap (bit_and a) mask ∙ and_mask a (7 - n)
-
-pub tail_appended : (p b w : ℕ) → p < 2 ^ 26 → w ≡ bit_and b 63 → bit_or (p * 64 % 4294967296) w ≡ p * 64 + b % 64
-tail_appended p b w h e =
-    let bits : w ≡ b % 64 = e ∙ and_mask b 6 in
-    let kept : p * 64 % 4294967296 ≡ p * 64 = mod-eq_of_lt (omega arith) in
-    rw (kept, bits) (or_shifted p 6 (b % 64) (omega arith))
 
 -- ---- the code points that a sequence may spell
 

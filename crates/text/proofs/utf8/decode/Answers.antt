@@ -1,4 +1,5 @@
 -- An octet of 128 or more is the first of two, three or four octets, or of none. Assumes nothing.
+use mathlib.Core.Path.{refl}
 use borrow.Author.Rules.{rules}
 use native.Mathlib.Omega.{arith}
 use Rattle.text.proofs.utf8.Octets.{leads_two, leads_three, leads_four}
@@ -16,5 +17,5 @@ decode_sequence-requires-in-4 c = search (leads_four, rules)
 
 pub returns-in_default : goal.returns-in_default
 returns-in_default c =
-    read_no_lead c.args.s.now c.args.at c.leading_ones.result c.requires.at_in_bounds (omega (arith, c.type_inv.s c.args.at)) c.leading_ones.ensures
+    read_no_lead c.args.s.now c.args.at _ c.requires.at_in_bounds (omega (arith, c.type_inv.s c.args.at)) refl
     (λ e. omega arith) (λ e. omega arith) (λ e. omega arith) c.requires.bound

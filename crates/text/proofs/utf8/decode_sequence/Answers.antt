@@ -1,12 +1,9 @@
 -- Of a sequence that is half read, the number so far and what is still to come decide. Assumes nothing.
-use Rattle.text.proofs.utf8.Decoding.{read_short, leads_small, half_begun, half_fits, half_refused, half_more, read_whole, read_not_allowed}
+use Rattle.text.proofs.utf8.Decoding.{read_short, half_begun, half_fits, half_refused, half_more, read_whole, read_not_allowed}
 use Rattle.text.proofs.utf8.decode_sequence.Goals as goal
 
 pub returns-then-s-at : goal.returns-then-s-at
 returns-then-s-at g c = search read_short
-
-pub lead_bits-point-requires : goal.lead_bits-point-requires
-lead_bits-point-requires g c = search leads_small
 
 pub loop-i-init : goal.loop-i-init
 loop-i-init g c = search half_begun
