@@ -15,6 +15,7 @@ use rows::limits::{MOST_CHOICES, MOST_ERROR_WORDS, MOST_TEXT_BYTES};
 use rows::names::NAME_WIDTH;
 use rows::schema::TYPE_REF_WIDTH;
 
+// The codes that the C function `ladlehedge_table_check` returns.
 pub const LAWFUL: u32 = 0;
 
 pub const UNLAWFUL: u32 = 1;
