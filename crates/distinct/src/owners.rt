@@ -41,6 +41,7 @@ fn fragment_claims(selections: &[u32], fragments: &[u32], row: u32, marks: &mut 
     }
 }
 
+// A loop and no `all`, as the next one: the marks change from row to row, and the library's clause of `all` says nothing of them.
 fn selections_claim(selections: &[u32], marks: &mut [bool]) -> bool
     requires { Marked 4096 (free_of_selections selections.now 0) marks.old }
     ensures value { result ≡ all (selection_owns_alone selections.now) (rows_of selections.now selection_width) }

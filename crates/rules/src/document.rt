@@ -5,13 +5,12 @@ ghost use Rattle.rules.specs.Document.{set_row, condition_lawful, selected_of, w
 
 use crate::layout::{is_distinct, is_new, is_within};
 use rows::columns::{
-    FRAGMENT_NAME, FRAGMENT_SET, GIVEN_NAME, SELECTION_GIVEN, SELECTION_GIVEN_COUNT,
-    SELECTION_INCLUDE, SELECTION_KEY, SELECTION_KIND, SELECTION_NAME, SELECTION_SET,
-    SELECTION_SKIP, SELECTION_TYPE,
+    FRAGMENT_NAME, FRAGMENT_SET, GIVEN_NAME, SELECTION_INCLUDE, SELECTION_KIND, SELECTION_SET,
+    SELECTION_SKIP,
 };
 use rows::document::{
-    FRAGMENT_WIDTH, GIVEN_WIDTH, SELECTION_WIDTH, Selected, fragment_at, given_at, set_at,
-    what_is_selected,
+    FRAGMENT_WIDTH, FieldSelection, GIVEN_WIDTH, SELECTION_WIDTH, Selected, field_selection,
+    fragment_at, given_at, set_at, what_is_selected,
 };
 use rows::layout::{Range, cell, row_count};
 
@@ -31,28 +30,27 @@ fn condition_is_lawful(names: u32, word: u32) -> bool
     (word as u64) < (names as u64) + 3
 }
 
-// Of a selection's words, what is selected: the kind, and six by kind.
+// What is selected, by the kind and the words that a field has; the other kinds have some of them.
 fn what_is_lawful(
     names: u32,
     type_refs: u32,
     sets: u32,
     given: u32,
     kind: u32,
-    name: u32,
-    key: u32,
-    its_given: Range,
-    set: u32,
-    ty: u32,
+    field: FieldSelection,
 ) -> bool
-    ensures { result ≡ what_lawful names type_refs sets given (selected_of kind name (record { name = name; key = key; given = its_given; set = set; ty = ty })) }
+    ensures { result ≡ what_lawful names type_refs sets given (selected_of kind field.name field) }
 {
+    let is_named = field.name < names;
+    let has_set = field.set < sets;
     match kind {
         0 => {
-            (((name < names) & (key < names)) & (is_within(given, its_given) & (ty < type_refs)))
-                & (set < sets)
+            ((is_named & (field.key < names))
+                & (is_within(given, field.given) & (field.ty < type_refs)))
+                & has_set
         }
-        1 => name < names,
-        2 => (name <= names) & (set < sets),
+        1 => is_named,
+        2 => (field.name <= names) & has_set,
         _ => false,
     }
 }
@@ -66,21 +64,15 @@ pub fn selection_is_lawful(
     kind: u32,
     skip: u32,
     include: u32,
-    name: u32,
-    key: u32,
-    its_given: Range,
-    set: u32,
-    ty: u32,
+    field: FieldSelection,
 ) -> bool
-    ensures { result ≡ selection_lawful names type_refs sets given (record { what = selected_of kind name (record { name = name; key = key; given = its_given; set = set; ty = ty }); skip = condition_of skip; include = condition_of include; place = 0 }) }
+    ensures { result ≡ selection_lawful names type_refs sets given (record { what = selected_of kind field.name field; skip = condition_of skip; include = condition_of include; place = 0 }) }
 {
     let conditions = condition_is_lawful(names, skip) & condition_is_lawful(names, include);
-    conditions
-        & what_is_lawful(
-            names, type_refs, sets, given, kind, name, key, its_given, set, ty,
-        )
+    conditions & what_is_lawful(names, type_refs, sets, given, kind, field)
 }
 
+#[tactic(auto, unfolding(rows::specs::Document::selection_at, rows::specs::Document::selection_of, rows::specs::Document::field_selection, rows::specs::Document::spread_selection, rows::specs::Document::inline_selection))]
 pub fn selection_row(
     names: u32,
     type_refs: u32,
@@ -95,17 +87,8 @@ pub fn selection_row(
     let kind = cell(selections, SELECTION_WIDTH, at, SELECTION_KIND);
     let skip = cell(selections, SELECTION_WIDTH, at, SELECTION_SKIP);
     let include = cell(selections, SELECTION_WIDTH, at, SELECTION_INCLUDE);
-    let name = cell(selections, SELECTION_WIDTH, at, SELECTION_NAME);
-    let key = cell(selections, SELECTION_WIDTH, at, SELECTION_KEY);
-    let its_given = Range {
-        first: cell(selections, SELECTION_WIDTH, at, SELECTION_GIVEN),
-        count: cell(selections, SELECTION_WIDTH, at, SELECTION_GIVEN_COUNT),
-    };
-    let set = cell(selections, SELECTION_WIDTH, at, SELECTION_SET);
-    let ty = cell(selections, SELECTION_WIDTH, at, SELECTION_TYPE);
-    selection_is_lawful(
-        names, type_refs, sets, given, kind, skip, include, name, key, its_given, set, ty,
-    )
+    let field = field_selection(selections, row);
+    selection_is_lawful(names, type_refs, sets, given, kind, skip, include, field)
 }
 
 pub fn given_row(names: u32, literals: u32, given: &[u32], row: u32) -> bool

@@ -69,7 +69,7 @@ fn is_new_by_marks(
     }
 }
 
-// No two rows of the range have the same word in the column.
+// No two rows of the range have the same word in the column. A loop and no `all`: the marks change from row to row.
 pub fn is_distinct(t: &[u32], width: usize, column: usize, rows: Range) -> bool
     requires { (width ≤ 16) × (column < 16) }
     ensures { result ≡ distinct t.now width column rows }

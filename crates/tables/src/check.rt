@@ -16,6 +16,7 @@ use rows::names::NAME_WIDTH;
 use rows::schema::TYPE_REF_WIDTH;
 use rows::tables::Tables;
 
+// The codes that the C function `ladlehedge_table_check` returns.
 pub const LAWFUL: u32 = 0;
 
 pub const UNLAWFUL: u32 = 1;

@@ -3,8 +3,6 @@ ghost use Rattle.std.specs.Prelude.{◌≡◌, ◌+◌, ◌≤◌, ◌<◌};
 ghost use Rattle.rows.specs.Layout.{set_width, selection_width, given_width, fragment_width};
 ghost use Rattle.rows.specs.Limits.{most_selections};
 ghost use Rattle.rows.specs.Rows.{all, rows_of};
-ghost use Rattle.rows.specs.declared.layout.Range.{Range};
-ghost use Rattle.rows.specs.declared.document.FieldSelection.{FieldSelection};
 ghost use Rattle.rules.specs.Document.{given_row, given_of, fragment_row, selected_of, children_larger};
 ghost use Rattle.tables.specs.ByTable.{selection_holds, set_holds, conj, document_tests, Skips, LargerUpTo};
 
@@ -15,7 +13,9 @@ use rows::columns::{
     SELECTION_INCLUDE, SELECTION_KEY, SELECTION_KIND, SELECTION_NAME, SELECTION_SET,
     SELECTION_SKIP, SELECTION_TYPE,
 };
-use rows::document::{FRAGMENT_WIDTH, GIVEN_WIDTH, SELECTION_WIDTH, SET_WIDTH, set_at};
+use rows::document::{
+    FRAGMENT_WIDTH, FieldSelection, GIVEN_WIDTH, SELECTION_WIDTH, SET_WIDTH, set_at,
+};
 use rows::layout::{Range, row_count, word};
 use rows::limits::MOST_SELECTIONS;
 use rules::document::{FIELD_KIND, child_is_larger, fragment_row, selection_is_lawful, set_row};
@@ -37,18 +37,10 @@ fn each_given_holds(names: u32, literals: u32, given: &[u32]) -> bool
 }
 
 // Of a selection's words: only a field is given arguments, and their names differ.
-fn given_differ(
-    given: &Noted<GIVEN_WIDTH, GIVEN_NAME>,
-    kind: u32,
-    name: u32,
-    key: u32,
-    its_given: Range,
-    set: u32,
-    ty: u32,
-) -> bool
-    ensures { result ≡ given_of given.now (selected_of kind name (record { name = name; key = key; given = its_given; set = set; ty = ty })) }
+fn given_differ(given: &Noted<GIVEN_WIDTH, GIVEN_NAME>, kind: u32, field: FieldSelection) -> bool
+    ensures { result ≡ given_of given.now (selected_of kind field.name field) }
 {
-    (kind != FIELD_KIND) || given.is_distinct(its_given)
+    (kind != FIELD_KIND) || given.is_distinct(field.given)
 }
 
 // `count` is how many arguments are given; the notes are on their names.
@@ -69,17 +61,18 @@ fn selection_holds(
     let kind = word(selections, SELECTION_WIDTH, row, SELECTION_KIND);
     let skip = word(selections, SELECTION_WIDTH, row, SELECTION_SKIP);
     let include = word(selections, SELECTION_WIDTH, row, SELECTION_INCLUDE);
-    let name = word(selections, SELECTION_WIDTH, row, SELECTION_NAME);
-    let key = word(selections, SELECTION_WIDTH, row, SELECTION_KEY);
-    let its_given = Range {
-        first: word(selections, SELECTION_WIDTH, row, SELECTION_GIVEN),
-        count: word(selections, SELECTION_WIDTH, row, SELECTION_GIVEN_COUNT),
+    let field = FieldSelection {
+        name: word(selections, SELECTION_WIDTH, row, SELECTION_NAME),
+        key: word(selections, SELECTION_WIDTH, row, SELECTION_KEY),
+        given: Range {
+            first: word(selections, SELECTION_WIDTH, row, SELECTION_GIVEN),
+            count: word(selections, SELECTION_WIDTH, row, SELECTION_GIVEN_COUNT),
+        },
+        set: word(selections, SELECTION_WIDTH, row, SELECTION_SET),
+        ty: word(selections, SELECTION_WIDTH, row, SELECTION_TYPE),
     };
-    let set = word(selections, SELECTION_WIDTH, row, SELECTION_SET);
-    let ty = word(selections, SELECTION_WIDTH, row, SELECTION_TYPE);
-    selection_is_lawful(
-        names, type_refs, sets, count, kind, skip, include, name, key, its_given, set, ty,
-    ) && given_differ(given, kind, name, key, its_given, set, ty)
+    selection_is_lawful(names, type_refs, sets, count, kind, skip, include, field)
+        && given_differ(given, kind, field)
 }
 
 fn selections_hold(names: u32, type_refs: u32, sets: u32, selections: &[u32], given: &[u32]) -> bool

@@ -1,6 +1,6 @@
 // The rules of document 01 on the tables lent, by name. What each says is in specs/Rules.antt.
 // How many rows a table has.
-#[derive(Clone, Copy)]
+#[derive(Clone, Copy, PartialEq, Eq, Debug)]
 pub enum SizeRule {
     Pool,
     Names,
@@ -19,7 +19,7 @@ pub enum SizeRule {
 }
 
 // Names, type references, types, fields and arguments.
-#[derive(Clone, Copy)]
+#[derive(Clone, Copy, PartialEq, Eq, Debug)]
 pub enum SchemaRule {
     NameSpelled,
     NameReserved,
@@ -37,7 +37,7 @@ pub enum SchemaRule {
 }
 
 // Sets of selections, arguments given, fragments.
-#[derive(Clone, Copy)]
+#[derive(Clone, Copy, PartialEq, Eq, Debug)]
 pub enum DocumentRule {
     SetRow,
     SelectionRow,
@@ -51,7 +51,7 @@ pub enum DocumentRule {
 }
 
 // JSON nodes, literals, variables, answers.
-#[derive(Clone, Copy)]
+#[derive(Clone, Copy, PartialEq, Eq, Debug)]
 pub enum ValueRule {
     NodeRow,
     NodeKey,
@@ -65,7 +65,7 @@ pub enum ValueRule {
     RootAnswer,
 }
 
-#[derive(Clone, Copy)]
+#[derive(Clone, Copy, PartialEq, Eq, Debug)]
 pub enum Rule {
     Size(SizeRule),
     Schema(SchemaRule),
