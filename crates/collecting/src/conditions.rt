@@ -10,6 +10,7 @@ use rows::json::{Node, node_at, variable_at};
 use rows::tables::Tables;
 
 // "A variable that is absent or not boolean counts as no directive."
+#[tactic(auto, using(crate::proofs::Leaves::conditions))]
 fn variable_holds(tables: &Tables, default: bool, name: u32) -> bool
     ensures { let t = lent tables.now in result ≡ variable_holds t.variables t.nodes default (variable_named t.variables name) }
 {
@@ -26,6 +27,7 @@ fn variable_holds(tables: &Tables, default: bool, name: u32) -> bool
 }
 
 // Whether a directive's `if` holds; `default` is what counts where there is no directive.
+#[tactic(auto, unfolding(graphql::specs::Collect::holds))]
 fn eval_if_arg(tables: &Tables, default: bool, condition: Condition) -> bool
     ensures { let t = lent tables.now in result ≡ holds t.variables t.nodes default condition }
 {

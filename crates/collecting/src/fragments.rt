@@ -17,6 +17,7 @@ fn type_name(types: &[u32], row: u32) -> u32
 }
 
 // "A fragment on an object applies to that object, on an interface to objects listing it, on a union to members."
+#[tactic(auto, using(crate::proofs::Leaves::applying))]
 pub fn does_fragment_type_apply(tables: &Tables, object: u32, condition: u32) -> bool
     requires { let t = lent tables.now in Listed t.types }
     ensures { let t = lent tables.now in result ≡ does_fragment_type_apply t.types t.members object condition }
@@ -36,6 +37,7 @@ pub fn does_fragment_type_apply(tables: &Tables, object: u32, condition: u32) ->
 }
 
 // An inline fragment with no type applies to all.
+#[tactic(auto, unfolding(graphql::specs::Collect::inline_applies))]
 pub fn inline_applies(tables: &Tables, object: u32, condition: Option<u32>) -> bool
     requires { let t = lent tables.now in Listed t.types }
     ensures { let t = lent tables.now in result ≡ inline_applies t.types t.members object condition }

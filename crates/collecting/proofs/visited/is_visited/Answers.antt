@@ -1,6 +1,0 @@
--- A row's bit is the number 1 shifted by the row. Assumes nothing.
-use Rattle.collecting.proofs.Bits.{mark_read}
-use Rattle.collecting.proofs.visited.is_visited.Goals as goal
-
-pub returns : goal.returns
-returns c = mark_read c.args.row c.args.visited c.requires
