@@ -152,7 +152,11 @@ fn put_field_label(tables: &Tables, text: &mut [u8], at: usize, field: u32) -> u
         (field_label (name_text t.pool t.names (field_at t.fields field).name)) }
 {
     let def = field_at(tables.fields, field);
-    put_label(text, at, Some(name_text(tables.pool, tables.names, def.name)))
+    put_label(
+        text,
+        at,
+        Some(name_text(tables.pool, tables.names, def.name)),
+    )
 }
 
 // An input field with its comma and its name; nothing where it is left out.
