@@ -1,6 +1,6 @@
 -- What is written without a look inside: a literal that converts part by part, a variable, the label of a field. Assumes nothing.
 use mathlib.Core.Path.{◌≡◌, refl, sym, ◌∙◌}
-use mathlib.Core.List.{List, [], ◌∷◌}
+use mathlib.Core.List.{List, []}
 use Rattle.std.specs.Prelude.{Option, Some, None, Result, Ok, Err}
 use Rattle.std.specs.Result.{result_ok}
 use Prim.Native.Nat.{ℕ, suc}

@@ -19,7 +19,7 @@ use Rattle.graphql.specs.Request.{Request}
 use Rattle.graphql.specs.Complete.{Leaf, field_place, field_error, complete_leaf_value}
 use Rattle.graphql.specs.Run as run
 use Rattle.values.specs.declared.sort.Sort.{Sort}
-use Rattle.values.specs.Put.{Put}
+use Rattle.echoing.specs.Echo.{Put}
 use Rattle.completing.specs.Judged.{judged, JudgesLeaf}
 use Rattle.completing.specs.Judged.{Verdict}
 use Rattle.codes.specs.declared.outcome.Outcome.{Outcome}

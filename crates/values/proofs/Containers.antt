@@ -1,6 +1,6 @@
 -- A container, way by way: what a function knows where it returns is what the definition says there. Whatever the parts are: `key` gives their keys
 -- and `value` their values. Assumes nothing.
-use mathlib.Core.Path.{◌≡◌, refl, ◌∙◌}
+use mathlib.Core.Path.{◌≡◌, refl}
 use mathlib.Core.Bool.{Bool}
 use mathlib.Core.List.{List}
 use Rattle.std.specs.Prelude.{Ok, Err}

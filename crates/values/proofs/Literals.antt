@@ -1,11 +1,10 @@
 -- Literals by their variants, and the walk through them, way by way: what a function knows where it returns is what the definition says there.
 -- Assumes nothing.
 use mathlib.Core.Path.{◌≡◌, refl}
-use mathlib.Core.Bool.{Bool, true, false}
+use mathlib.Core.Bool.{true, false}
 use mathlib.Core.List.{List, [], ◌∷◌}
 use Rattle.std.specs.Prelude.{Ok, Err}
-use Prim.Native.Nat.{ℕ, zero, suc, ◌+◌, ◌-◌, ◌≤◌, ◌<◌}
-use native.Mathlib.Omega.{arith}
+use Prim.Native.Nat.{ℕ, zero, suc, ◌+◌, ◌≤◌}
 use types.Run.{miss}
 use borrow.Enum.Refused.{Among, opened, shut}
 use denote.Enum.Declared.{tag_of}

@@ -1,5 +1,5 @@
 -- What the functions that read and write a literal ensure, by the definition of its conversion part by part.
-use Rattle.std.specs.Prelude.{◌≡◌, true, false, List, ℕ, zero, suc, ◌+◌, ◌≤◌, length}
+use Rattle.std.specs.Prelude.{◌≡◌, true, false, List, ℕ, ◌+◌, ◌≤◌, length}
 use Rattle.std.specs.Prelude.{Ok}
 use Rattle.rows.specs.Limits.{most_literals}
 use Rattle.rows.specs.Strings.{text_of}
