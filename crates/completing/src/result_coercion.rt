@@ -15,7 +15,7 @@ use rows::schema::{TypeKind, TypeRef, type_at, type_ref_at};
 use rows::tables::Tables;
 use values::sort::Sort;
 
-// The reserved names of the scalars.
+// The reserved names of the scalars: rows of the table of names, and numbers since the C interface has them so.
 const INT: u32 = 1;
 
 const FLOAT: u32 = 2;
@@ -82,31 +82,6 @@ pub fn scalar_takes(name: u32, sort: Sort) -> Result<(), FieldError>
     }
 }
 
-fn enum_takes(tables: &Tables, ty: u32, sort: Sort, string: &[u8]) -> Result<(), FieldError>
-    requires { let t = lent tables.now in Listed t.types }
-    ensures { let t = lent tables.now in JudgesAt t.pool t.names t.types t.members ty kind.Enum sort string.now result }
-{
-    if sort == Sort::String && has_value(tables, ty, string) {
-        return Ok(());
-    }
-    Err(FieldError::NotAnEnumValue)
-}
-
-// A leaf that is no null.
-fn leaf_at(tables: &Tables, ty: u32, sort: Sort, string: &[u8]) -> Result<(), FieldError>
-    requires { let t = lent tables.now in Listed t.types }
-    ensures { let t = lent tables.now in JudgesAt t.pool t.names t.types t.members ty (type_at t.types ty).kind sort string.now result }
-{
-    let def = type_at(tables.types, ty);
-    match def.kind {
-        TypeKind::Scalar => scalar_takes(def.name, sort),
-        TypeKind::Enum => enum_takes(tables, ty, sort, string),
-        TypeKind::InputObject => Err(FieldError::InputObjectType),
-        TypeKind::Unknown => Err(FieldError::UndefinedType),
-        _ => Err(FieldError::LeafForComposite),
-    }
-}
-
 fn null_at(type_refs: &[u32], ty: u32) -> Result<(), FieldError>
     ensures { result ≡ cond (non_null type_refs.now ty) (Err error.NullForNonNull) (Ok tt) }
 {
@@ -114,6 +89,77 @@ fn null_at(type_refs: &[u32], ty: u32) -> Result<(), FieldError>
         Err(FieldError::NullForNonNull)
     } else {
         Ok(())
+    }
+}
+
+// The tables, where the members that a type lists have numbers that are words.
+#[derive(Clone, Copy)]
+struct Completer<'a> {
+    tables: &'a Tables<'a>,
+    ghost listed: { Listed tables.now.types.now },
+}
+
+impl<'a> Completer<'a> {
+    fn enum_takes(self, ty: u32, sort: Sort, string: &[u8]) -> Result<(), FieldError>
+        ensures { let t = lent self.entry.tables.now in JudgesAt t.pool t.names t.types t.members ty kind.Enum sort string.now result }
+    {
+        if sort == Sort::String && has_value(self.tables, ty, string) {
+            return Ok(());
+        }
+        Err(FieldError::NotAnEnumValue)
+    }
+
+    // A leaf that is no null.
+    fn leaf_at(self, ty: u32, sort: Sort, string: &[u8]) -> Result<(), FieldError>
+        ensures { let t = lent self.entry.tables.now in JudgesAt t.pool t.names t.types t.members ty (type_at t.types ty).kind sort string.now result }
+    {
+        let def = type_at(self.tables.types, ty);
+        match def.kind {
+            TypeKind::Scalar => scalar_takes(def.name, sort),
+            TypeKind::Enum => self.enum_takes(ty, sort, string),
+            TypeKind::InputObject => Err(FieldError::InputObjectType),
+            TypeKind::Unknown => Err(FieldError::UndefinedType),
+            _ => Err(FieldError::LeafForComposite),
+        }
+    }
+
+    // ResolveAbstractType, for an interface.
+    fn implementing(self, ty: u32, name: u32) -> Result<u32, FieldError>
+        ensures { let t = lent self.entry.tables.now in TypesAt t.types t.members ty kind.Interface name result }
+    {
+        let object = object_named(self.tables.types, name).ok_or(FieldError::ObjectTypeUnknown)?;
+        let def = type_at(self.tables.types, ty);
+        only_if(
+            lists_name(self.tables, object, def.name),
+            object,
+            FieldError::NotImplementing,
+        )
+    }
+
+    // ResolveAbstractType, for a union.
+    fn member_of(self, ty: u32, name: u32) -> Result<u32, FieldError>
+        ensures { let t = lent self.entry.tables.now in TypesAt t.types t.members ty kind.Union name result }
+    {
+        let object = object_named(self.tables.types, name).ok_or(FieldError::ObjectTypeUnknown)?;
+        only_if(
+            lists_name(self.tables, ty, name),
+            object,
+            FieldError::NotInUnion,
+        )
+    }
+
+    fn object_at(self, ty: u32, name: u32) -> Result<u32, FieldError>
+        ensures { let t = lent self.entry.tables.now in TypesAt t.types t.members ty (type_at t.types ty).kind name result }
+    {
+        let def = type_at(self.tables.types, ty);
+        match def.kind {
+            TypeKind::Scalar | TypeKind::Enum => Err(FieldError::ObjectForLeafType),
+            TypeKind::Object => only_if(name == def.name, ty, FieldError::OtherObjectType),
+            TypeKind::Interface => self.implementing(ty, name),
+            TypeKind::Union => self.member_of(ty, name),
+            TypeKind::InputObject => Err(FieldError::InputObjectType),
+            TypeKind::Unknown => Err(FieldError::UndefinedType),
+        }
     }
 }
 
@@ -126,7 +172,7 @@ pub fn judge_leaf(tables: &Tables, ty: u32, sort: Sort, string: &[u8]) -> Result
         return null_at(tables.type_refs, ty);
     }
     let row = named_type(tables, ty)?;
-    leaf_at(tables, row, sort, string)
+    Completer { tables }.leaf_at(row, sort, string)
 }
 
 // The object type of this name, if there is one.
@@ -140,49 +186,11 @@ fn object_named(types: &[u32], name: u32) -> Option<u32>
     }
 }
 
-// ResolveAbstractType, for an interface.
-fn implementing(tables: &Tables, ty: u32, name: u32) -> Result<u32, FieldError>
-    requires { let t = lent tables.now in Listed t.types }
-    ensures { let t = lent tables.now in TypesAt t.types t.members ty kind.Interface name result }
-{
-    let object = object_named(tables.types, name).ok_or(FieldError::ObjectTypeUnknown)?;
-    let def = type_at(tables.types, ty);
-    only_if(
-        lists_name(tables, object, def.name),
-        object,
-        FieldError::NotImplementing,
-    )
-}
-
-// ResolveAbstractType, for a union.
-fn member_of(tables: &Tables, ty: u32, name: u32) -> Result<u32, FieldError>
-    requires { let t = lent tables.now in Listed t.types }
-    ensures { let t = lent tables.now in TypesAt t.types t.members ty kind.Union name result }
-{
-    let object = object_named(tables.types, name).ok_or(FieldError::ObjectTypeUnknown)?;
-    only_if(lists_name(tables, ty, name), object, FieldError::NotInUnion)
-}
-
-fn object_at(tables: &Tables, ty: u32, name: u32) -> Result<u32, FieldError>
-    requires { let t = lent tables.now in Listed t.types }
-    ensures { let t = lent tables.now in TypesAt t.types t.members ty (type_at t.types ty).kind name result }
-{
-    let def = type_at(tables.types, ty);
-    match def.kind {
-        TypeKind::Scalar | TypeKind::Enum => Err(FieldError::ObjectForLeafType),
-        TypeKind::Object => only_if(name == def.name, ty, FieldError::OtherObjectType),
-        TypeKind::Interface => implementing(tables, ty, name),
-        TypeKind::Union => member_of(tables, ty, name),
-        TypeKind::InputObject => Err(FieldError::InputObjectType),
-        TypeKind::Unknown => Err(FieldError::UndefinedType),
-    }
-}
-
 // The object type of an answer that names one, completed at a type.
 pub fn object_type(tables: &Tables, ty: u32, name: u32) -> Result<u32, FieldError>
     requires { let t = lent tables.now in Listed t.types }
     ensures { let t = lent tables.now in TypesObject t.refs t.types t.members ty name result }
 {
     let row = named_type(tables, ty)?;
-    object_at(tables, row, name)
+    Completer { tables }.object_at(row, name)
 }

@@ -1,6 +1,6 @@
 -- By the kind of the type. Assumes nothing.
 use Rattle.completing.proofs.Types.{object_input, object_leaf, object_own, object_unknown}
-use Rattle.completing.proofs.result_coercion.object_at.Goals as goal
+use Rattle.completing.proofs.result_coercion.Completer.object_at.Goals as goal
 
 pub returns-in-Scalar : goal.returns-in-Scalar
 returns-in-Scalar c = rw (← c.type_at-def.ensures) (object_leaf _ _ _ c.in-Scalar.is)

@@ -1,6 +1,6 @@
 -- By the kind of the type. Assumes nothing.
 use Rattle.completing.proofs.Leaves.{at_composite, at_input, at_scalar, at_unknown}
-use Rattle.completing.proofs.result_coercion.leaf_at.Goals as goal
+use Rattle.completing.proofs.result_coercion.Completer.leaf_at.Goals as goal
 
 pub returns-in-Scalar : goal.returns-in-Scalar
 returns-in-Scalar c = rw (← c.type_at-def.ensures, c.in-Scalar.is)

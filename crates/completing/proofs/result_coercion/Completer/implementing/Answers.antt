@@ -1,14 +1,14 @@
 -- The object type names the interface. Assumes nothing.
 use Rattle.std.proofs.lemmas.Result.{err_from_is_err_and}
 use Rattle.completing.proofs.Types.{interface_unknown, object_implements}
-use Rattle.completing.proofs.result_coercion.implementing.Goals as goal
+use Rattle.completing.proofs.result_coercion.Completer.implementing.Goals as goal
 
 pub returns-in_err-object : goal.returns-in_err-object
 returns-in_err-object c = let p = err_from_is_err_and c.from_residual.result c.from_residual.ensures.1 in rw (p.1, p.2)
     (interface_unknown _ _ c.object_named.ensures c.in_err-object.ensures.ok_part c.in_err-object.ensures.value)
 
 pub lists_name-requires : goal.lists_name-requires
-lists_name-requires c = c.requires.within _
+lists_name-requires c = c.args.self.listed.within _
 
 pub returns : goal.returns
 returns c = object_implements _ _ c.type_at-def.ensures c.object_named.ensures c.in_ok-object.ensures.ok_part c.lists_name.ensures c.only_if.ensures
