@@ -1,23 +1,34 @@
--- A path is told segment by segment: what the definition gives for the segments from one on begins with that one, and where less than a segment is
+-- A record's path is what stands behind its head, cut at the record's end. A path is told segment by segment: what the definition gives for the segments from one on begins with that one, and where less than a segment is
 -- left it gives nothing. Assumes nothing.
 use mathlib.Core.Path.{◌≡◌, refl, sym, ap}
 use mathlib.Core.List.{List, [], ◌∷◌, ◌++◌}
-use Prim.Native.Nat.{ℕ, suc, ◌+◌, ◌-◌, ◌≤◌, ◌<◌}
+use Prim.Native.Nat.{ℕ, ◌+◌, ◌*◌, ◌-◌, ◌≤◌, ◌<◌, min}
 use native.Mathlib.Omega.{arith}
 use borrow.Author.Tests.{ne_eqb, eq-eqb}
 use lib.ListN.{length, take, drop, get_or, length-drop}
-use lib.Seq.{drop-cons, take_all}
+use lib.Seq.{take_all}
 use Rattle.rows.specs.Names.{name_text}
 use Rattle.tokens.specs.Decimal.{decimal}
 use Rattle.writing.specs.Wrote.{Writes}
 use Rattle.writing.proofs.WritesLaws.{stay, same, «then»}
-use Rattle.telling.specs.Told.{told_segment, told_behind, told_below, told_path}
+use Rattle.telling.specs.Told.{segments_in, told_segment, told_behind, told_below, told_path}
 
--- ---- the first words
+-- ---- a record
 
--- More than there are is all.
-pub all_words : (words : List ℕ) (count : ℕ) → length words < count → words ≡ take count words
-all_words words count h = sym (take_all count words (omega arith))
+pub path-in : (words : List ℕ) {path : List ℕ} → 3 ≤ length words → path ≡ take (2 * get_or words 2 0) (take (length words - 3) (drop 3 words)) → path ≡ segments_in words
+unfolding segments_in
+path-in words h e = rw e (ap (take (2 * get_or words 2 0)) (take_all (length words - 3) (drop 3 words) (omega (arith, length-drop 3 words))))
+
+pub no-path-in : (words : List ℕ) → length words < 3 → [] ≡ segments_in words
+unfolding segments_in
+no-path-in [] h = refl
+no-path-in (a ∷ []) h = refl
+no-path-in (a ∷ b ∷ []) h = refl
+no-path-in (a ∷ b ∷ c ∷ words) h = absurd (omega arith)
+
+-- What is left of the words is the less where the record is cut short.
+pub end-min : {at all : ℕ} (size : ℕ) → at < all → at + min (3 + size) (all - at) ≡ min (at + 3 + size) all
+end-min size h = omega arith
 
 -- ---- one segment
 
@@ -32,13 +43,12 @@ index_told pool names {kind} value other = simp (ne_eqb kind 0 other)
 -- ---- those behind the first
 
 below_step :
-    (pool names s : List ℕ) (i : ℕ) → 2 ≤ length s - i
-    → told_below pool names (drop i s) ≡ told_behind pool names (get_or s i 0) (get_or s (i + 1) 0) ++ told_below pool names (drop (i + 2) s)
+    (pool names s : List ℕ) → 2 ≤ length s
+    → told_below pool names s ≡ told_behind pool names (get_or s 0 0) (get_or s 1 0) ++ told_below pool names (drop 2 s)
 unfolding told_below
-below_step pool names s i h =
-    let one : i + 1 ≡ suc i = omega arith in
-    let two : i + 2 ≡ suc (suc i) = omega arith in
-    rw (one, two, drop-cons s i 0 (omega arith), drop-cons s (suc i) 0 (omega arith))
+below_step pool names [] h = absurd (omega arith)
+below_step pool names (kind ∷ []) h = absurd (omega arith)
+below_step pool names (kind ∷ value ∷ s) h = refl
 
 below_short : (pool names s : List ℕ) → length s < 2 → told_below pool names s ≡ []
 unfolding told_below
@@ -46,33 +56,40 @@ below_short pool names [] h = refl
 below_short pool names (kind ∷ []) h = refl
 below_short pool names (kind ∷ value ∷ s) h = absurd (omega arith)
 
--- The segments before the one at i are told: whoever tells the rest has told all.
-pub record Telling (pool names s line₀ : List ℕ) (at : ℕ) (line : List ℕ) (next i : ℕ) : Type 0 where
-  pub within : i ≤ length s
-  pub completes : (line' : List ℕ) (end : ℕ) → Writes line line' next end (told_below pool names (drop i s)) → Writes line₀ line' at end (told_below pool names s)
+-- what is left of the segments behind one
+below_all : (s : List ℕ) → take (length s - 2) (drop 2 s) ≡ drop 2 s
+below_all s = take_all (length s - 2) (drop 2 s) (omega (arith, length-drop 2 s))
 
-pub tell_begin : (pool names s line : List ℕ) (at : ℕ) → Telling pool names s line at line at 0
-tell_begin pool names s line at = record { within = omega arith; completes = λ line' end w. w }
+-- The segments before the rest are told: whoever tells the rest has told all.
+pub record Telling (pool names s line₀ : List ℕ) (at : ℕ) (line : List ℕ) (next : ℕ) (rest : List ℕ) : Type 0 where
+  pub completes : (line' : List ℕ) (end : ℕ) → Writes line line' next end (told_below pool names rest) → Writes line₀ line' at end (told_below pool names s)
+
+pub tell_begin : (pool names s line : List ℕ) (at : ℕ) → Telling pool names s line at line at s
+tell_begin pool names s line at = record { completes = λ line' end w. w }
 
 pub tell-again :
-    {pool names s line₀ line line' : List ℕ} {at next next' i : ℕ} → Telling pool names s line₀ at line next i → 2 ≤ length s - i
-    → Writes line line' next next' (told_behind pool names (get_or s i 0) (get_or s (i + 1) 0)) → Telling pool names s line₀ at line' next' (i + 2)
-tell-again {pool} {names} {s} {i = i} g h w =
-    record { within = omega (arith, g.within); completes = λ line'' end rest. g.completes line'' end (same (sym (below_step pool names s i h)) («then» w rest)) }
+    {pool names s line₀ line line' rest : List ℕ} {at next next' : ℕ} → Telling pool names s line₀ at line next rest → 2 ≤ length rest
+    → Writes line line' next next' (told_behind pool names (get_or rest 0 0) (get_or rest 1 0))
+    → Telling pool names s line₀ at line' next' (take (length rest - 2) (drop 2 rest))
+tell-again {pool} {names} {rest = rest} g h w =
+    record { completes = λ line'' end v. g.completes line'' end (same (sym (below_step pool names rest h)) («then» w (same (ap (told_below pool names) (below_all rest)) v))) }
 
 pub tell-end :
-    {pool names s line₀ line : List ℕ} {at next i : ℕ} → Telling pool names s line₀ at line next i → length s - i < 2
+    {pool names s line₀ line rest : List ℕ} {at next : ℕ} → Telling pool names s line₀ at line next rest → length rest < 2
     → Writes line₀ line at next (told_below pool names s)
-tell-end {pool} {names} {s} {line = line} {next = next} {i = i} g h =
-    g.completes line next (same (sym (below_short pool names (drop i s) (omega (arith, length-drop i s)))) (stay line next))
+tell-end {pool} {names} {line = line} {rest = rest} {next = next} g h =
+    g.completes line next (same (sym (below_short pool names rest h)) (stay line next))
 
 -- ---- a path
 
-pub path_short : (pool names s : List ℕ) → length s < 2 → told_path pool names s ≡ []
+path_short : (pool names s : List ℕ) → length s < 2 → told_path pool names s ≡ []
 unfolding told_path
 path_short pool names [] h = refl
 path_short pool names (kind ∷ []) h = refl
 path_short pool names (kind ∷ value ∷ s) h = absurd (omega arith)
+
+pub no-path : (pool names s : List ℕ) {line : List ℕ} → length s < 2 → Writes line line 0 0 (told_path pool names s)
+no-path pool names s {line} h = same (sym (path_short pool names s h)) (stay line 0)
 
 path-step :
     (pool names s : List ℕ) → 2 ≤ length s
@@ -88,5 +105,4 @@ pub path-told :
     → Writes line line' 0 next (told_segment pool names (get_or s 0 0) (get_or s 1 0))
     → Writes line' line'' next end (told_below pool names (take (length s - 2) (drop 2 s))) → Writes line line'' 0 end (told_path pool names s)
 path-told pool names s h first rest =
-    let all : take (length s - 2) (drop 2 s) ≡ drop 2 s = take_all (length s - 2) (drop 2 s) (omega (arith, length-drop 2 s)) in
-    same (sym (path-step pool names s h)) («then» first (same (ap (told_below pool names) all) rest))
+    same (sym (path-step pool names s h)) («then» first (same (ap (told_below pool names) (below_all s)) rest))

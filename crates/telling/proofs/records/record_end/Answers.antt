@@ -1,16 +1,8 @@
--- The tests say whether all of the record is there. Assumes nothing.
-use borrow.Author.Rules.{rules}
+-- The lesser of what the record has and what is left of the words. Assumes nothing.
 use Rattle.telling.specs.Told.{record_end}
+use Rattle.telling.proofs.Telling.{end-min}
 use Rattle.telling.proofs.records.record_end.Goals as goal
 
-pub returns-then-left-lt-HEAD : goal.returns-then-left-lt-HEAD
+pub returns-clause-value : goal.returns-clause-value
 unfolding record_end
-returns-then-left-lt-HEAD c = search rules
-
-pub returns-then-left-size : goal.returns-then-left-size
-unfolding record_end
-returns-then-left-size c = search rules
-
-pub returns : goal.returns
-unfolding record_end
-returns c = search rules
+returns-clause-value c = rw (c.min.ensures, c.word_at.ensures) (end-min _ c.requires)
