@@ -1,12 +1,10 @@
 // What a rule is about: its table, and what of it.
-ghost use Rattle.std.specs.Prelude.{◌<◌};
-
-use table_file::layout;
+use table_file::layout::Table;
 use tables::rule::{DocumentRule, Rule, SchemaRule, SizeRule, ValueRule};
 
 // How long a table is and which type is the root are said of no row. A rule of a row is broken by the numbers in the row itself, by
 // bytes of the pool or by an earlier row, or by the rows of its range, through which it goes.
-#[derive(Clone, Copy)]
+#[derive(Clone, Copy, PartialEq, Eq, Debug)]
 pub enum Subject {
     Table,
     Numbers,
@@ -14,84 +12,66 @@ pub enum Subject {
     Range,
 }
 
-fn size_table(rule: SizeRule) -> usize
-    ensures { result < 16 }
-{
+fn size_table(rule: SizeRule) -> Table {
     match rule {
-        SizeRule::Pool => layout::POOL,
-        SizeRule::Names => layout::NAMES,
-        SizeRule::TypeRefs => layout::TYPE_REFS,
-        SizeRule::Types => layout::TYPES,
-        SizeRule::Fields => layout::FIELDS,
-        SizeRule::Arguments => layout::ARGUMENTS,
-        SizeRule::Sets => layout::SETS,
-        SizeRule::Selections => layout::SELECTIONS,
-        SizeRule::Given => layout::GIVEN,
-        SizeRule::Fragments => layout::FRAGMENTS,
-        SizeRule::Nodes => layout::NODES,
-        SizeRule::Literals => layout::LITERALS,
-        SizeRule::Variables => layout::VARIABLES,
-        SizeRule::Answers => layout::ANSWERS,
+        SizeRule::Pool => Table::Pool,
+        SizeRule::Names => Table::Names,
+        SizeRule::TypeRefs => Table::TypeRefs,
+        SizeRule::Types => Table::Types,
+        SizeRule::Fields => Table::Fields,
+        SizeRule::Arguments => Table::Arguments,
+        SizeRule::Sets => Table::Sets,
+        SizeRule::Selections => Table::Selections,
+        SizeRule::Given => Table::Given,
+        SizeRule::Fragments => Table::Fragments,
+        SizeRule::Nodes => Table::Nodes,
+        SizeRule::Literals => Table::Literals,
+        SizeRule::Variables => Table::Variables,
+        SizeRule::Answers => Table::Answers,
     }
 }
 
-fn schema_table(rule: SchemaRule) -> usize
-    ensures { result < 16 }
-{
+fn schema_table(rule: SchemaRule) -> Table {
     match rule {
-        SchemaRule::NameSpelled => layout::NAMES,
-        SchemaRule::NameReserved => layout::NAMES,
-        SchemaRule::NamesDiffer => layout::NAMES,
-        SchemaRule::TypeReference => layout::TYPE_REFS,
-        SchemaRule::TypeRow => layout::TYPES,
-        SchemaRule::TypeParts => layout::TYPES,
-        SchemaRule::TypeNamesDiffer => layout::TYPES,
-        SchemaRule::Member => layout::MEMBERS,
-        SchemaRule::FieldRow => layout::FIELDS,
-        SchemaRule::FieldNamesDiffer => layout::TYPES,
-        SchemaRule::ArgumentRow => layout::ARGUMENTS,
-        SchemaRule::ArgumentNamesDiffer => layout::FIELDS,
-        SchemaRule::RootType => layout::ROOT,
+        SchemaRule::NameSpelled | SchemaRule::NameReserved | SchemaRule::NamesDiffer =>
+            Table::Names,
+        SchemaRule::TypeReference => Table::TypeRefs,
+        SchemaRule::TypeRow
+        | SchemaRule::TypeParts
+        | SchemaRule::TypeNamesDiffer
+        | SchemaRule::FieldNamesDiffer => Table::Types,
+        SchemaRule::Member => Table::Members,
+        SchemaRule::FieldRow | SchemaRule::ArgumentNamesDiffer => Table::Fields,
+        SchemaRule::ArgumentRow => Table::Arguments,
+        SchemaRule::RootType => Table::Root,
     }
 }
 
-fn document_table(rule: DocumentRule) -> usize
-    ensures { result < 16 }
-{
+fn document_table(rule: DocumentRule) -> Table {
     match rule {
-        DocumentRule::SetRow => layout::SETS,
-        DocumentRule::SelectionRow => layout::SELECTIONS,
-        DocumentRule::GivenRow => layout::GIVEN,
-        DocumentRule::GivenNamesDiffer => layout::SELECTIONS,
-        DocumentRule::FragmentRow => layout::FRAGMENTS,
-        DocumentRule::FragmentNamesDiffer => layout::FRAGMENTS,
-        DocumentRule::ChildSetsLarger => layout::SETS,
-        DocumentRule::SelectionOwnsAlone => layout::SELECTIONS,
-        DocumentRule::FragmentOwnsAlone => layout::FRAGMENTS,
+        DocumentRule::SetRow | DocumentRule::ChildSetsLarger => Table::Sets,
+        DocumentRule::SelectionRow
+        | DocumentRule::GivenNamesDiffer
+        | DocumentRule::SelectionOwnsAlone => Table::Selections,
+        DocumentRule::GivenRow => Table::Given,
+        DocumentRule::FragmentRow
+        | DocumentRule::FragmentNamesDiffer
+        | DocumentRule::FragmentOwnsAlone => Table::Fragments,
     }
 }
 
-fn value_table(rule: ValueRule) -> usize
-    ensures { result < 16 }
-{
+fn value_table(rule: ValueRule) -> Table {
     match rule {
-        ValueRule::NodeRow => layout::NODES,
-        ValueRule::NodeKey => layout::NODES,
-        ValueRule::NodeKeysDiffer => layout::NODES,
-        ValueRule::LiteralRow => layout::LITERALS,
-        ValueRule::LiteralKeysDiffer => layout::LITERALS,
-        ValueRule::VariableRow => layout::VARIABLES,
-        ValueRule::VariableNamesDiffer => layout::VARIABLES,
-        ValueRule::AnswerRow => layout::ANSWERS,
-        ValueRule::AnswerNamesDiffer => layout::ANSWERS,
-        ValueRule::RootAnswer => layout::ANSWERS,
+        ValueRule::NodeRow | ValueRule::NodeKey | ValueRule::NodeKeysDiffer => Table::Nodes,
+        ValueRule::LiteralRow | ValueRule::LiteralKeysDiffer => Table::Literals,
+        ValueRule::VariableRow | ValueRule::VariableNamesDiffer => Table::Variables,
+        ValueRule::AnswerRow | ValueRule::AnswerNamesDiffer | ValueRule::RootAnswer =>
+            Table::Answers,
     }
 }
 
 // The table of the rows that a rule speaks of.
-pub(crate) fn table_of(rule: Rule) -> usize
-    ensures { result < 16 }
-{
+pub(crate) fn table_of(rule: Rule) -> Table {
     match rule {
         Rule::Size(size) => size_table(size),
         Rule::Schema(schema) => schema_table(schema),
@@ -100,42 +80,21 @@ pub(crate) fn table_of(rule: Rule) -> usize
     }
 }
 
-fn about_schema(rule: SchemaRule) -> Subject {
-    match rule {
-        SchemaRule::NameSpelled => Subject::Row,
-        SchemaRule::NameReserved => Subject::Row,
-        SchemaRule::NamesDiffer => Subject::Range,
-        SchemaRule::FieldNamesDiffer => Subject::Range,
-        SchemaRule::ArgumentNamesDiffer => Subject::Range,
-        SchemaRule::RootType => Subject::Table,
-        _ => Subject::Numbers,
-    }
-}
-
-fn about_document(rule: DocumentRule) -> Subject {
-    match rule {
-        DocumentRule::GivenNamesDiffer => Subject::Range,
-        DocumentRule::ChildSetsLarger => Subject::Range,
-        _ => Subject::Numbers,
-    }
-}
-
-fn about_values(rule: ValueRule) -> Subject {
-    match rule {
-        ValueRule::NodeKeysDiffer => Subject::Range,
-        ValueRule::LiteralKeysDiffer => Subject::Range,
-        ValueRule::AnswerNamesDiffer => Subject::Range,
-        ValueRule::RootAnswer => Subject::Row,
-        _ => Subject::Numbers,
-    }
-}
-
 // What of its table a rule is about.
 pub(crate) fn about(rule: Rule) -> Subject {
     match rule {
-        Rule::Size(size) => Subject::Table,
-        Rule::Schema(schema) => about_schema(schema),
-        Rule::Document(document) => about_document(document),
-        Rule::Value(value) => about_values(value),
+        Rule::Size(_) | Rule::Schema(SchemaRule::RootType) => Subject::Table,
+        Rule::Schema(SchemaRule::NameSpelled | SchemaRule::NameReserved)
+        | Rule::Value(ValueRule::RootAnswer) => Subject::Row,
+        Rule::Schema(
+            SchemaRule::NamesDiffer
+            | SchemaRule::FieldNamesDiffer
+            | SchemaRule::ArgumentNamesDiffer,
+        )
+        | Rule::Document(DocumentRule::GivenNamesDiffer | DocumentRule::ChildSetsLarger)
+        | Rule::Value(
+            ValueRule::NodeKeysDiffer | ValueRule::LiteralKeysDiffer | ValueRule::AnswerNamesDiffer,
+        ) => Subject::Range,
+        _ => Subject::Numbers,
     }
 }

@@ -12,12 +12,12 @@ mod mending;
 mod sentences;
 mod table_files;
 
-use arguments::{Word, begins_with_verb, file_count, is_file, word_at};
+use arguments::{Word, begins_with_verb, file_count, word_at};
 use rows::limits::MOST_CHOICES;
 use std::rt::{Env, Files};
 use table_files::Question;
-use telling::choices::{Order, read, read_choices};
-use telling::records::first_words;
+use telling::choices::read_choices;
+use telling::records::first;
 use verdict::arguments::{PATH_BYTES, count as argument_count, put};
 use verdict::say;
 
@@ -31,6 +31,7 @@ fn answer_file(
     question: Question,
     choices: &[u32],
 ) {
+    // No heap: a buffer of a fixed size, as for the list below and for the choices.
     let mut path = [0u8; PATH_BYTES];
     let Ok(n) = rt.arg(number, &mut path) else {
         say::words(rt, b"a file's name is longer than a path may be\n");
@@ -39,39 +40,14 @@ fn answer_file(
     table_files::answer(rt, question, &path[..n], is_one_of_several, choices);
 }
 
-fn next_question(word: Word, question: Question) -> Question {
-    match word {
-        Word::Check => Question::Check,
-        Word::Depth => Question::Depth,
-        Word::Run => Question::Run,
-        Word::Raw => Question::RawRun,
-        _ => question,
-    }
-}
-
-// The choices that an argument lists.
-fn order_at(env: &impl Env, number: usize, choices: &mut [u32]) -> Order {
+// How many choices an argument lists, if it lists any.
+fn order_at(env: &impl Env, number: usize, choices: &mut [u32]) -> Option<usize> {
     let mut list = [0u8; LIST_BYTES];
     let n = put(env, number, &mut list);
     read_choices(&list[..n], choices)
 }
 
-// A run begins with no choices, and keeps those that it was given.
-fn next_order(
-    env: &impl Env,
-    word: Word,
-    number: usize,
-    given: usize,
-    choices: &mut [u32],
-) -> Order {
-    match word {
-        Word::Run => read(0),
-        Word::Choices => order_at(env, number, choices),
-        _ => read(given),
-    }
-}
-
-// Takes the arguments one by one.
+// Takes the arguments one by one. A run begins with no choices, and keeps those that it was given.
 fn answer_arguments(
     rt: &(impl Print + Env + Files),
     count: usize,
@@ -81,25 +57,32 @@ fn answer_arguments(
     let mut given: usize = 0;
     let mut question = Question::Check;
     for number in 1..count {
-        let word = word_at(rt, number);
-        question = next_question(word, question);
-        let order = next_order(rt, word, number, given, choices);
-        if !order.is_read {
-            say::words(
-                rt,
-                b"--order takes up to 4,096 numbers with commas between them, as 3,1,2\n",
-            );
-            return;
-        }
-        given = order.count;
-        if is_file(word) {
-            answer_file(
+        match word_at(rt, number) {
+            Word::Check => question = Question::Check,
+            Word::Depth => question = Question::Depth,
+            Word::Run => {
+                question = Question::Run;
+                given = 0;
+            }
+            Word::Raw => question = Question::RawRun,
+            Word::Order => {}
+            Word::Choices => {
+                let Some(listed) = order_at(rt, number, choices) else {
+                    say::words(
+                        rt,
+                        b"--order takes up to 4,096 numbers with commas between them, as 3,1,2\n",
+                    );
+                    return;
+                };
+                given = listed;
+            }
+            Word::File => answer_file(
                 rt,
                 number,
                 is_one_of_several,
                 question,
-                first_words(choices, given),
-            );
+                first(choices, given),
+            ),
         }
     }
 }
@@ -107,11 +90,7 @@ fn answer_arguments(
 fn main(rt: HostRuntime) {
     let count = argument_count(&rt);
     let files = file_count(&rt, count);
-    if files == 0 {
-        help::print(&rt);
-        return;
-    }
-    if !begins_with_verb(&rt) {
+    if files == 0 || !begins_with_verb(&rt) {
         help::print(&rt);
         return;
     }
