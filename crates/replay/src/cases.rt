@@ -1,15 +1,11 @@
 // Where the cases of a text begin.
-ghost use Rattle.std.specs.Prelude.{◌≤◌, length};
+ghost use Rattle.std.specs.Prelude.{◌≤◌, ◌<◌, length};
 
 // A case begins with `@` at the start of a line. A row of its tables that begins with `@` has a blank before it.
-fn begins_case(text: &[u8], at: usize) -> bool {
-    if at >= text.len() {
-        return false;
-    }
-    if text[at] != b'@' {
-        return false;
-    }
-    at == 0 || text[at - 1] == b'\n'
+fn begins_case(text: &[u8], at: usize) -> bool
+    requires { at < length text.now }
+{
+    text[at] == b'@' && (at == 0 || text[at - 1] == b'\n')
 }
 
 // The first place from `from` on at which a case begins; the text's end where none does.
@@ -17,12 +13,10 @@ pub(crate) fn next_case(text: &[u8], from: usize) -> usize
     requires { from ≤ length text.now }
     ensures { (from ≤ result) × (result ≤ length text.now) }
 {
-    let mut at = from;
-    while at < text.len() {
+    for at in from..text.len() {
         if begins_case(text, at) {
             return at;
         }
-        at += 1;
     }
-    at
+    text.len()
 }

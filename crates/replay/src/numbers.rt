@@ -1,44 +1,14 @@
 // The numbers of a line.
-ghost use Rattle.std.specs.Prelude.{◌≤◌, ◌<◌, length};
+ghost use Rattle.std.specs.Prelude.{◌≤◌, length};
 
-fn is_digit(b: u8) -> bool {
-    b >= b'0' && b <= b'9'
-}
-
-// Where the digits end that stand from `from` on.
-fn digits_end(line: &[u8], from: usize) -> usize
-    requires { from ≤ length line.now }
-    ensures { (from ≤ result) × (result ≤ length line.now) }
-{
-    let mut at = from;
-    while at < line.len() {
-        if !is_digit(line[at]) {
-            return at;
-        }
-        at += 1;
-    }
-    at
-}
-
-fn digit(b: u8) -> u32
-    ensures { result < 10 }
-{
-    if b >= b'0' {
-        if b <= b'9' {
-            return (b - b'0') as u32;
-        }
-    }
-    0
-}
-
-// The number that these digits spell, of those that have up to nine.
+// The number that these digits spell, of those that have up to nine. `parse` would refuse a longer one.
 fn spelled(digits: &[u8]) -> u32 {
     let mut value: u32 = 0;
-    for at in 0..digits.len() {
+    for b in digits {
         if value >= 100000000 {
             return value;
         }
-        value = value * 10 + digit(digits[at]);
+        value = value * 10 + (*b as char).to_digit(10).unwrap_or(0);
     }
     value
 }
@@ -48,18 +18,13 @@ pub(crate) fn read_numbers(line: &[u8], numbers: &mut [u32]) -> usize
     ensures { result ≤ length numbers.new }
 {
     let mut count = 0;
-    let mut at = 0;
-    while at < line.len() {
-        if count >= numbers.len() {
+    for digits in line.split(|b| !b.is_ascii_digit()) {
+        if count == numbers.len() {
             return count;
         }
-        let end = digits_end(line, at);
-        if at < end {
-            numbers[count] = spelled(&line[at..end]);
+        if !digits.is_empty() {
+            numbers[count] = spelled(digits);
             count += 1;
-            at = end;
-        } else {
-            at += 1;
         }
     }
     count

@@ -1,11 +1,9 @@
--- Each turn leaves a byte behind, or a number's digits. Assumes nothing.
-use mathlib.Core.Path.{◌≡◌}
-use Prim.Native.Nat.{◌≤◌, ◌-◌}
-use lib.ListN.{length}
+-- Each turn takes a number, of which there is room for so many. Assumes nothing.
+use Rattle.std.proofs.Common.{◌≤◌, length}
 use Rattle.replay.proofs.numbers.read_numbers.Given as goal
 
-abbrev pub invariant-loop-at : goal.invariant-loop-at
-invariant-loop-at l = (l.at ≤ length l.line) × (l.count ≤ length l.initial.numbers) × (length l.numbers ≡ length l.initial.numbers)
-
-abbrev pub decreases-loop-at : goal.decreases-loop-at
-decreases-loop-at l = length l.line - l.at
+abbrev pub invariant-loop-digits : goal.invariant-loop-digits
+invariant-loop-digits l =
+    (goal.iterator-loop-digits).can_next l.digits-iterator ×
+    (goal.iterator-loop-digits).is_finite l.digits-iterator ×
+    (l.count ≤ length l.numbers)
