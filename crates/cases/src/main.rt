@@ -224,6 +224,7 @@ fn answer(out: &impl Print, case: &Case) {
         words: &words,
         sizes,
     };
+    // No heap: two buffers of a fixed size.
     let mut data = [0u8; ROOM];
     let mut errors = [0u32; ROOM];
     let room = ROOM.min(case.room);

@@ -19,6 +19,7 @@ pub enum Word {
 
 // What an argument is by itself. What is longer than these words is a file.
 fn word_alone(env: &impl Env, number: usize) -> Word {
+    // No heap: a buffer of a fixed size.
     let mut argument = [0u8; 8];
     let n = put(env, number, &mut argument);
     match &argument[..n] {

@@ -31,6 +31,7 @@ fn answer_file(
     question: Question,
     choices: &[u32],
 ) {
+    // No heap: a buffer of a fixed size, as for the list below and for the choices.
     let mut path = [0u8; PATH_BYTES];
     let Ok(n) = rt.arg(number, &mut path) else {
         say::words(rt, b"a file's name is longer than a path may be\n");

@@ -26,7 +26,8 @@ fn is_mended_by(rule: Rule, row: u32, place: usize, number: u32, file: &mut Tabl
     first_broken(rule, &file.held()) != Some(row)
 }
 
-// A kind that is known is not what is wrong, though as another kind nearly every row is right.
+// A kind that is known is not what is wrong, though as another kind nearly every row is right. How many kinds there are stands here as a
+// number: most enums of kinds are read from a whole row, and the word alone is asked about.
 fn is_known_kind(table: Table, column: usize, word: u32) -> bool {
     match table {
         Table::TypeRefs => column == columns::TYPE_REF_KIND && word < 2,

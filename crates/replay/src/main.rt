@@ -72,13 +72,14 @@ fn answer_case(out: &impl Print, shared: &[u8], case: &[u8]) {
     say::words(out, label(&case[..end]));
     say::words(out, b": ");
     let below = question_end(case, end);
+    // No heap: a buffer of a fixed size, with room for two sizes and all choices.
     let mut numbers = [0u32; 4352];
     let count = read_numbers(&case[end..below], &mut numbers);
     answer_tables(out, shared, &case[below..], &numbers[..count]);
     say::words(out, b"\n");
 }
 
-// The place goes from case to case, so no `for` counts it.
+// One by one, by a `while`: each case ends where the next begins.
 fn replay(out: &impl Print, text: &[u8]) {
     let first = next_case(text, 0);
     let mut at = first;

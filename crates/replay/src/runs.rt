@@ -4,7 +4,7 @@ use verdict::answers::print_run;
 use verdict::runs::{run_by_choices, run_in_order};
 use verdict::say;
 
-// Buffers one larger than a run takes: what is refused can be asked too.
+// Buffers one larger than a run takes: what is refused can be asked too. No heap: their sizes are fixed.
 pub const TEXT_BYTES: usize = 65537;
 
 pub const ERROR_WORDS: usize = 16385;

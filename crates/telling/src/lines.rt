@@ -7,7 +7,7 @@ use rows::tables::Tables;
 use tokens::json::put_natural;
 use writing::write::{put, put_all};
 
-// The kind of a segment that is a name.
+// The kind of a segment that is a name. It stays a number, as C is handed it (`told_segment`).
 const NAME: u32 = 0;
 
 // A segment of a path: the name, or the index as a number.

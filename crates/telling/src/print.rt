@@ -17,11 +17,12 @@ use verdict::say;
 const PATH_BYTES: usize = 4096;
 
 // The line of an error: its path, what is wrong in words and by its code, and the place.
-fn print_error(out: &impl Print, tables: &Tables, record: &[u32]) {
+fn print_error(out: &impl Print, tables: &Tables, error: &[u32]) {
+    // No heap: a buffer of a fixed size.
     let mut path = [0u8; PATH_BYTES];
-    let length = put_path(&mut path, tables, records::segments(record));
-    let code = word_at(record, records::CODE);
-    let place = word_at(record, records::PLACE);
+    let length = put_path(&mut path, tables, records::segments(error));
+    let code = word_at(error, records::CODE);
+    let place = word_at(error, records::PLACE);
     let wrong = sentences::field_error(code);
     say::words(out, b"  ");
     say::words(out, first(&path, length));
@@ -29,10 +30,11 @@ fn print_error(out: &impl Print, tables: &Tables, record: &[u32]) {
 }
 
 fn print_errors(out: &impl Print, tables: &Tables, errors: &[u32]) {
-    let mut at = 0;
-    while at < errors.len() {
-        print_error(out, tables, &errors[at..]);
-        at = record_end(errors, at);
+    let mut rest = errors;
+    while !rest.is_empty() {
+        let (record, behind) = rest.split_at(record_end(rest, 0));
+        print_error(out, tables, record);
+        rest = behind;
     }
 }
 
@@ -73,6 +75,7 @@ fn print_told(out: &impl Print, code: u32, text: &[u8], errors: &[u32], tables: 
 pub fn print_run(out: &impl Print, held: &Held, choices: &[u32], is_raw: bool) -> u32
     ensures { result ≡ (report (record { tables = tables_held held.now }) 65536 16384 choices.now).code }
 {
+    // No heap: two buffers of a fixed size, and in `reported` how much of each is filled.
     let mut text = [0u8; MOST_TEXT_BYTES];
     let mut errors = [0u32; MOST_ERROR_WORDS];
     let reported = run_by_choices(held, choices, &mut text, &mut errors);

@@ -1,4 +1,5 @@
-// The words of error records: code, place, how many segments the path has, and two words a segment.
+// The words of error records: code, place, how many segments the path has, and two words a segment. They stay words, as a run puts them into the
+// buffer that C lends it.
 ghost use Rattle.std.specs.Prelude.{◌≡◌, ◌≤◌, ◌<◌, length, take, get_or};
 ghost use Rattle.telling.specs.Told.{segments_in, record_end};
 
