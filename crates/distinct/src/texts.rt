@@ -73,6 +73,7 @@ impl<'a, const WIDTH: usize, const COLUMN: usize> Texts<'a, WIDTH, COLUMN> {
     }
 
     // The row after the last one from `from` on and before `row` that has the text of `row`; `from` where none has it. `head` is the chain's.
+    // A `while`, since the chain's links say which row comes next.
     fn after_last_same(
         &self,
         next: &[u16],

@@ -25,7 +25,7 @@ pub fn refuse(text: &mut [u8], errors: &mut [u32], outcome: Outcome) -> Reported
     }
 }
 
-// How many records there are in so many words: each says how long its path is.
+// How many records there are in so many words. A `while`, since each record says how long its path is.
 fn record_count(errors: &[u32], words: usize) -> u32
     requires { (words ≤ length errors.now) × (length errors.now ≤ most_error_words) }
     ensures { Counts errors.now words result }

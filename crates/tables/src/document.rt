@@ -95,7 +95,7 @@ fn each_fragment_holds(names: u32, sets: u32, fragments: &[u32]) -> bool
 }
 
 // The first selection from `from` on that was not looked at in this set or a larger one. Every way that is gone is half as long the next
-// time.
+// time. A `while`, since the skips say which row comes next.
 fn first_unlooked(selections: &[u32], set: u32, skips: &mut [u16], from: usize) -> usize
     requires skips { Skips selections.now set skips.old }
     requires from_le_most_selections { from ≤ most_selections }
@@ -115,7 +115,7 @@ fn first_unlooked(selections: &[u32], set: u32, skips: &mut [u16], from: usize) 
 }
 
 // From the last set on, a selection is looked at in the first set that has it: a child set that is larger than that is larger than the
-// others.
+// others. A `while`, since rows that were looked at are skipped.
 fn children_are_larger(selections: &[u32], set: u32, skips: &mut [u16], rows: Range) -> bool
     requires skips { Skips selections.now set skips.old }
     requires count_bound { rows.first + rows.count ≤ most_selections }

@@ -29,6 +29,7 @@ fn print_error(out: &impl Print, tables: &Tables, error: &[u32]) {
     let _ = println!(out; ": {wrong} ({code}), at {place}");
 }
 
+// A `while`, since each record says where the next begins.
 fn print_errors(out: &impl Print, tables: &Tables, errors: &[u32]) {
     let mut rest = errors;
     while !rest.is_empty() {

@@ -55,7 +55,7 @@ fn print_record(out: &impl Print, tables: &Tables, record: &[u32], with_places: 
     }
 }
 
-// Prints the records, and gives how many there are.
+// Prints the records, and gives how many there are. A `while`, since each record says where the next begins.
 fn print_records(out: &impl Print, tables: &Tables, errors: &[u32], with_places: bool) -> usize {
     let mut count: usize = 0;
     let mut rest = errors;

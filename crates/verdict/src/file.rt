@@ -24,7 +24,8 @@ pub fn new_text() -> Room
     [0; ROOM]
 }
 
-// Reads until text is full, the file ends or a read fails, and gives how many bytes it put at the start of text.
+// Reads until text is full, the file ends or a read fails, and gives how many bytes it put at the start of text. A `while`, since each read
+// says how many came.
 fn read_full(file: &mut impl Read, text: &mut [u8]) -> usize
     ensures { result ≤ length text.new }
 {
