@@ -119,6 +119,8 @@ fn put_variable(tables: &Tables, text: &mut [u8], at: usize, room: u32, name: u3
     put_node(tables, text, at, room, variable.node).ok()
 }
 
+// The loop here and that of `put_input_object` differ in label, callee and brackets, and share their proof (proofs/Loop.antt). What they all ask of the
+// tables stays in the contracts: a type for it would be asked of every caller above.
 #[cycle(coerced)]
 fn put_items(
     tables: &Tables,

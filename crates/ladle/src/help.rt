@@ -1,4 +1,5 @@
-// What ladle does, in a page. The script ./ladle prints the same lines from here where the program is not built yet.
+// What ladle does, in a page. The script ./ladle reads the same lines from here where the program is not built yet, so
+// they stay one literal.
 use verdict::say;
 
 pub(crate) fn print(out: &impl Print) {

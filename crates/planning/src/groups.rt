@@ -34,8 +34,8 @@ fn definition_of(tables: &Tables, object: u32, name: u32) -> u16
     }
 }
 
-// Which of the groups from the row `first` on has the key, if one has. A loop of its own, as lookup's: with the library's `find` it takes more
-// than half as long again.
+// Which of the groups from the row `first` on has the key, if one has. A loop of its own, as the search for a word in lookup, where the library's
+// `find` was timed and is slower.
 fn group_with(plans: &[u16], first: usize, groups: usize, key: u32) -> Option<usize>
     requires { (8 * (first + groups) ≤ length plans.now) × (length plans.now ≤ most_words) }
     ensures { FirstWith plans.now first groups key result }

@@ -28,6 +28,7 @@ use Rattle.echoing.specs.declared.echo.Source.{Source}
 use Rattle.echoing.specs.declared.echo.Source.TheVariants as source
 use Rattle.leaves.specs.declared.leaf.Leaf as code
 use Rattle.leaves.specs.declared.leaf.Leaf.TheVariants as leaf
+use Rattle.leaves.specs.Leaves.{leaf_of}
 use Rattle.walking.proofs.RunLaws.{bind_at}
 use Rattle.resolving.specs.Sound.{Leads}
 use Rattle.resolving.specs.Resolve.{Valuing, Resolved, Gave, ResolvesRow, EchoesArgument}
@@ -56,7 +57,7 @@ module _ {arguments gives literals variables : List ℕ} {asked : Asked} {name :
         echo_none _ name ((rw e at h).stands pool names refs types fields nodes a.path args a.comes);
   }
 
-  pub echo_node : {row : ℕ} → s ≡ Some (source.Node row)
+  echo_node : {row : ℕ} → s ≡ Some (source.Node row)
       → EchoesArgument arguments gives literals variables asked name (Ok (Some (value.Leaf (leaf.Node row))))
   unfolding coerce_arguments
   echo_node {row} e = record {
@@ -65,7 +66,7 @@ module _ {arguments gives literals variables : List ℕ} {asked : Asked} {name :
         echo_some _ name (leaf.Node row) f.is f.comes;
   }
 
-  pub echo_literal : {ty row : ℕ} → s ≡ Some (source.Literal ty row)
+  echo_literal : {ty row : ℕ} → s ≡ Some (source.Literal ty row)
       → EchoesArgument arguments gives literals variables asked name (Ok (Some (value.Leaf (leaf.Literal ty row))))
   unfolding coerce_arguments
   echo_literal {ty} {row} e = record {
@@ -74,7 +75,7 @@ module _ {arguments gives literals variables : List ℕ} {asked : Asked} {name :
         echo_some _ name (leaf.Literal ty row) f.found.is (record { path = a.path; comes = f.found.comes; shaped = f.shaped });
   }
 
-  pub echo_default_lem : {row : ℕ} → s ≡ Some (source.Default row)
+  echo_default_lem : {row : ℕ} → s ≡ Some (source.Default row)
       → EchoesArgument arguments gives literals variables asked name (Ok (Some (value.Leaf (leaf.Default row))))
   unfolding coerce_arguments
   echo_default_lem {row} e = record {
@@ -82,6 +83,11 @@ module _ {arguments gives literals variables : List ℕ} {asked : Asked} {name :
         let f = (rw e at h).stands pool names refs types fields nodes a.path args a.comes in
         echo_some _ name (leaf.Default row) f.is f.comes;
   }
+
+  pub echo_source : (found : Source) → s ≡ Some found → EchoesArgument arguments gives literals variables asked name (Ok (Some (value.Leaf (leaf_of found))))
+  echo_source (source.Node row) e = echo_node e
+  echo_source (source.Literal ty row) e = echo_literal e
+  echo_source (source.Default row) e = echo_default_lem e
 
 -- ---- A node, which has a value in the room of all nodes
 

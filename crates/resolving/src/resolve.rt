@@ -11,7 +11,7 @@ ghost use Rattle.tables.specs.Tables.{lent};
 use codes::errors::FieldError;
 use codes::outcome::Outcome;
 use completing::result_coercion::judge_leaf;
-use echoing::echo::{Source, argument_source};
+use echoing::echo::argument_source;
 use leaves::leaf::{Leaf, leaf_sort, leaf_string, put_leaf};
 use rows::answers::{Answer, answer_at};
 use rows::layout::Range;
@@ -44,12 +44,7 @@ fn echoed(tables: &Tables, asked: Asked, name: u32) -> Result<Option<Given>, Fie
     let Some(source) = argument_source(tables, asked.definitions, asked.written, name) else {
         return Err(FieldError::Resolver);
     };
-    let leaf = match source {
-        Source::Node(row) => Leaf::Node(row),
-        Source::Literal { ty, row } => Leaf::Literal { ty: ty, row: row },
-        Source::Default(row) => Leaf::Default(row),
-    };
-    Ok(Some(Given::Leaf(leaf)))
+    Ok(Some(Given::Leaf(Leaf::from(source))))
 }
 
 // The answer in a row, to a field that is asked so: what was given, nothing where it is a skip, or the resolver's error.

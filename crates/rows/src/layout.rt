@@ -29,7 +29,7 @@ pub fn cell(t: &[u32], width: usize, row: usize, column: usize) -> u32
     t.get(row * width + column).copied().unwrap_or(0)
 }
 
-// The same, where the row is there.
+// The same, where the row is there; no twin of `cell`, since it asks that and does not look.
 #[tactic(auto, using(crate::proofs::Cells::cell_there), unfolding(crate::specs::Rows::cell))]
 pub fn word(t: &[u32], width: usize, row: u32, column: usize) -> u32
     requires width_bound { (width ≤ 16) × (column < width) }

@@ -95,7 +95,8 @@ impl<'a> Store<'a> {
         self.filled.size(table)
     }
 
-    // Puts a byte at the pool's end, where there is room.
+    // Puts a byte at the pool's end, where there is room. Beside `append`: one writes at an end that is known, the other in a region of the words, and
+    // one function for both would ask which at each step.
     pub(crate) fn append_byte(&mut self, byte: u8) -> Result<(), Fault>
         ensures { get_or self.old.filled.sizes 0 0 ≤ get_or self.new.filled.sizes 0 0 }
     {

@@ -7,7 +7,8 @@ ghost use Rattle.text.specs.Found.{Decodes};
 
 use crate::ascii::past_ascii;
 
-// A character of a text: its code point, and the position past its last byte.
+// A character of a text: its code point, and the position past its last byte. A text and a position stay two here, and are no shorter slice: the
+// definition speaks of two positions in one text.
 #[derive(Clone, Copy)]
 struct Decoded {
     point: u32,

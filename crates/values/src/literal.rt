@@ -17,7 +17,7 @@ use rows::tables::Tables;
 use tokens::json::{put_false, put_natural, put_negative, put_null, put_string, put_true};
 use writing::write::put_all;
 
-// A literal that is no container and no variable.
+// A literal that is no container and no variable. Beside `put_plain`: its arms read other fields, and one writer for both would need an enum between.
 fn put_plain_literal(tables: &Tables, text: &mut [u8], at: usize, literal: Literal) -> usize
     ensures { let t = lent tables.now in Writes text.old text.new at result (print (plain_literal t.pool t.names literal)) }
 {

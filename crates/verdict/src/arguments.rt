@@ -18,7 +18,8 @@ pub fn count(env: &impl Env) -> usize {
     usize::MAX
 }
 
-// Puts the argument of this number at the start of buf, and gives its length; 0 where it is missing or longer than buf.
+// Puts the argument of this number at the start of buf, and gives its length; 0 where it is missing or longer than buf. No Option: both callers take a
+// missing word for an empty one.
 pub fn put(env: &impl Env, number: usize, buf: &mut [u8]) -> usize
     ensures { result ≤ length buf.new }
 {
