@@ -9,7 +9,7 @@ use telling::print::print_run;
 use verdict::words::print_depth;
 use verdict::{entries, file, say};
 
-// What is asked about a file's tables.
+// What is asked about a file's tables, by the verb before it. It stays an enum: a function in its place would be chosen by the same match.
 #[derive(Clone, Copy, PartialEq, Eq, Debug)]
 pub enum Question {
     Check,

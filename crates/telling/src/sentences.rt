@@ -33,7 +33,7 @@ pub(crate) fn field_error(code: u32) -> &'static str {
     }
 }
 
-// In the order of the codes.
+// In the order of the codes, which are the numbers that a run hands back.
 const REFUSALS: [&str; 8] = [
     "nothing is wrong",
     "the tables break a rule; mend the rows below",
