@@ -72,7 +72,7 @@ fn print_told(out: &impl Print, code: u32, text: &[u8], errors: &[u32], tables: 
     print_errors(out, tables, errors);
 }
 
-// Runs what a table file holds, prints the report and gives its code.
+// Runs what a table file holds, prints the report and gives its code. `is_raw` chooses one of two forms: as a closure it would be chosen by the same test.
 pub fn print_run(out: &impl Print, held: &Held, choices: &[u32], is_raw: bool) -> u32
     ensures { result ≡ (report (record { tables = tables_held held.now }) 65536 16384 choices.now).code }
 {
