@@ -29,11 +29,10 @@ use Rattle.walking.specs.contracts.state.Failure.{the_type as failures}
 use Rattle.running.specs.Reporting.{Counts, ReportsWritten, ReportsEnd}
 
 -- All is zero.
-pub refuse_reports : (text errors : List ℕ) {text' errors' : List ℕ} (o : Outcome) {code : ℕ} → text' ≡ zeroed_from 0 text → errors' ≡ zeroed_from 0 errors
-    → code ≡ code_of o
-    → Reports (length text) (length errors) (refused (code_of o)) (record { code = code; bytes = 0; words = 0; records = 0 }) text' errors'
+pub refuse_reports : (text errors : List ℕ) {text' errors' : List ℕ} (code : ℕ) → text' ≡ zeroed_from 0 text → errors' ≡ zeroed_from 0 errors
+    → Reports (length text) (length errors) (refused code) (record { code = code; bytes = 0; words = 0; records = 0 }) text' errors'
 unfolding refused filled
-refuse_reports text errors o e f c = record { code = c; bytes = refl; words = refl; records = refl; text_is = e; errors_are = f }
+refuse_reports text errors code e f = record { code = refl; bytes = refl; words = refl; records = refl; text_is = e; errors_are = f }
 
 -- ---- What was written, against its buffer
 
@@ -76,18 +75,21 @@ module _ (t e : ℕ) (d : Data) (log : Log) where
   unfolding fitted
   fitted_both h k = rw (le-leb (length (print_data d)) t h, le-leb (length (words_of (records_of log))) e k)
 
-module _ {text errors text' errors' : List ℕ} {at errs : ℕ} {r : Reported} where
-  pub report_text_too_long : length text < at → Reports (length text) (length errors) (refused (code_of TextTooLong)) r text' errors'
+module _ {text errors text' errors' : List ℕ} {at errs code : ℕ} {r : Reported} where
+  pub report_text_too_long : length text < at → code ≡ code_of TextTooLong → Reports (length text) (length errors) (refused code) r text' errors'
       → ReportsWritten text errors at errs r text' errors'
-  report_text_too_long h k = record {
+  report_text_too_long h z told = record {
     reports = λ before noted d log w v.
+        let k = rw z at told in
         rw (fitted_not (length before) (length noted) d log (overran w h), ← w.long, ← v.long) k;
   }
 
   pub report_records_too_long : at ≤ length text → length errors < errs
-      → Reports (length text) (length errors) (refused (code_of RecordsTooLong)) r text' errors' → ReportsWritten text errors at errs r text' errors'
-  report_records_too_long h l k = record {
+      → code ≡ code_of RecordsTooLong → Reports (length text) (length errors) (refused code) r text' errors'
+      → ReportsWritten text errors at errs r text' errors'
+  report_records_too_long h l z told = record {
     reports = λ before noted d log w v.
+        let k = rw z at told in
         let fits : length (print_data d) ≤ length before = omega (arith, reached w h, w.long) in
         rw (fitted_text (length before) (length noted) d log fits (overran v l), ← w.long, ← v.long) k;
   }
@@ -148,11 +150,12 @@ module _ {text errors text' errors' : List ℕ} {d : Done} {r : Reported} where
         rw p.3 (k.reports before noted p.0 p.1 (rw z at h.wrote) (rw y at h.noted));
   }
 
-  pub end_stopped : {f : Failure} {o : Outcome} → d.what ≡ Err f → f ≡ Stop o
-      → Reports (length text) (length errors) (refused (code_of o)) r text' errors' → ReportsEnd text errors d r text' errors'
+  pub end_stopped : {f : Failure} {o : Outcome} {code : ℕ} → d.what ≡ Err f → f ≡ Stop o → code ≡ code_of o
+      → Reports (length text) (length errors) (refused code) r text' errors' → ReportsEnd text errors d r text' errors'
   unfolding ended fitted
-  end_stopped e q k = record {
+  end_stopped e q c told = record {
     reports = λ cs before noted s x z y g.
+        let k = rw c at told in
         let p = stop_of x (e ∙ ap Err q) g.what in
         let h = rw p.1 at g in
         rw (p.1, ← h.wrote, ← h.noted.long) k;

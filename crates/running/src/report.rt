@@ -11,14 +11,14 @@ use tokens::json::put_null;
 use walking::state::{Done, Failure};
 use writing::place::clear;
 
-// A code, and nothing but zeros.
-pub fn refuse(text: &mut [u8], errors: &mut [u32], outcome: Outcome) -> Reported
-    ensures { Reports (length text.old) (length errors.old) (refused (code_of outcome)) result text.new errors.new }
+// A code, whichever it is, and nothing but zeros.
+pub fn refuse(text: &mut [u8], errors: &mut [u32], code: u32) -> Reported
+    ensures { Reports (length text.old) (length errors.old) (refused code) result text.new errors.new }
 {
     clear(text, 0);
     clear(errors, 0);
     Reported {
-        code: outcome.code(),
+        code,
         bytes: 0,
         words: 0,
         records: 0,
@@ -46,10 +46,10 @@ fn report(text: &mut [u8], errors: &mut [u32], at: usize, errs: usize) -> Report
     ensures { ReportsWritten text.old errors.old at errs result text.new errors.new }
 {
     if text.len() < at {
-        return refuse(text, errors, Outcome::TextTooLong);
+        return refuse(text, errors, Outcome::TextTooLong.code());
     }
     if errors.len() < errs {
-        return refuse(text, errors, Outcome::RecordsTooLong);
+        return refuse(text, errors, Outcome::RecordsTooLong.code());
     }
     clear(text, at);
     clear(errors, errs);
@@ -72,7 +72,7 @@ pub fn report_end(text: &mut [u8], errors: &mut [u32], d: Done) -> Reported
         return report(text, errors, state.at, state.errs);
     };
     if let Failure::Stop(outcome) = failure {
-        return refuse(text, errors, outcome);
+        return refuse(text, errors, outcome.code());
     }
     let at = put_null(text, 0);
     report(text, errors, at, state.errs)

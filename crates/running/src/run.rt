@@ -105,7 +105,7 @@ pub fn run_ordered(
 {
     let refused = refusal(tables, choices.len(), text.len(), errors.len());
     if let Some(outcome) = refused {
-        return refuse(text, errors, outcome);
+        return refuse(text, errors, outcome.code());
     }
     let d = execute_operation(tables, choices, text, errors);
     report_end(text, errors, d)

@@ -3,7 +3,7 @@ use Rattle.running.proofs.Refusing.{report_refused, tables_lawful, sizes_kept, r
 use Rattle.running.proofs.run.run_ordered.Goals as goal
 
 pub returns-in-Some : goal.returns-in-Some
-returns-in-Some c = report_refused _ _ _ _ c.refusal-refused.ensures c.in-Some.is c.refuse.ensures
+returns-in-Some c = report_refused _ _ _ _ c.refusal-refused.ensures c.in-Some.is (rw c.code.ensures at c.refuse.ensures)
 
 pub execute_operation-d-requires : goal.execute_operation-d-requires
 execute_operation-d-requires c = tables_lawful _ _ _ _ c.refusal-refused.ensures c.in_default.is
