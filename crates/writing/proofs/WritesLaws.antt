@@ -124,6 +124,10 @@ pub one : {A : Type 0} (t : List A) (a : ℕ) (b : A) → a < length t → Write
 unfolding saturated
 one t a b h = writes (written_one t a b) (omega arith)
 
+-- The same, with the position after it written in another way.
+pub one_to : {A : Type 0} (t : List A) (a a' : ℕ) (b : A) → a < length t → a' ≡ a + 1 → Writes t (set t a b) a a' (b ∷ [])
+one_to t a a' b h e = rw e (one t a b h)
+
 -- One element, where there is no room: the position says so.
 pub past : {A : Type 0} (t : List A) (a : ℕ) (b : A) → length t ≤ a → Writes t t a (length t + 1) (b ∷ [])
 unfolding saturated
