@@ -66,7 +66,7 @@ pub execute_apart-plan_apart-requires : goal.execute_apart-plan_apart-requires
 execute_apart-plan_apart-requires t c = (apart_storable c.requires refl, apart_lookable c.requires)
 
 pub execute_apart-returns-in-Err : goal.execute_apart-returns-in-Err
-execute_apart-returns-in-Err t c = apart_stops c.requires refl c.plan_apart.ensures c.in-Err.is c.stopped.ensures
+execute_apart-returns-in-Err t c = apart_stops c.requires refl c.plan_apart.ensures c.in-Err.is c.code.ensures c.stopped.ensures
 
 pub execute_apart-execute_selection_set-d-requires : goal.execute_apart-execute_selection_set-d-requires
 execute_apart-execute_selection_set-d-requires t c = (omega arith, rw c.planned_to.ensures (apart_set_ready c.requires refl c.plan_apart.ensures c.in-Ok.is))
@@ -93,7 +93,7 @@ pub execute_object-returns-in-Some : goal.execute_object-returns-in-Some
 execute_object-returns-in-Some t c = object_set c.requires _ c.plan_for.ensures (search rules) (c.in-Ok.is ∙ ap Ok c.in-Some.is) (rw c.planned_to.ensures at c.execute_selection_set.ensures)
 
 pub execute_object-returns-in-Err : goal.execute_object-returns-in-Err
-execute_object-returns-in-Err t c = object_stops c.requires _ c.plan_for.ensures (search rules) c.in-Err.is c.stopped.ensures
+execute_object-returns-in-Err t c = object_stops c.requires _ c.plan_for.ensures (search rules) c.in-Err.is c.code.ensures c.stopped.ensures
 
 pub execute_selection_set-group_count-groups-requires : goal.execute_selection_set-group_count-groups-requires
 execute_selection_set-group_count-groups-requires t c = set_there c.requires
