@@ -30,12 +30,14 @@ unfolding label
 part_labelled key false e w = rw e at w
 part_labelled key true e w = rw e at w
 
--- the brackets of an array and of an object are those of the kind of the parts
 module _ (keyed : Bool) {t t' : List ℕ} {start at end : ℕ} where
+  -- square brackets are those of parts without keys
   pub square : keyed ≡ false → Closes 91 93 t start at t' end → Closes (left keyed) (right keyed) t start at t' end
   square e q = rw e q
 
+  -- and curly ones those of parts with keys
   pub curly : keyed ≡ true → Closes 123 125 t start at t' end → Closes (left keyed) (right keyed) t start at t' end
   curly e q = rw e q
 
+-- the brackets around the parts, of either kind
 pub ruleset brackets = (square, curly)
