@@ -10,14 +10,32 @@ use Rattle.std.specs.Option.{unwrap_or, option_or}
 use Rattle.std.specs.List.{prefix_len}
 use Prim.Native.Nat.{ℕ, suc, ◌+◌, ◌-◌, ◌≤◌, ◌<◌}
 use native.Mathlib.Omega.{arith}
-use borrow.Author.Tests.{le-leb, eqb-false, ltb-false}
+use borrow.Author.Tests.{le-leb, ne_eqb, eqb-false, ltb-false}
 use lib.Dec.{leb, ltb, eqb, eqb-suc-zero}
 use lib.Pointwise.{pointwise}
 use lib.ListN.{length, take, drop, length-drop}
 use lib.Seq.{take_all}
 use Rattle.text.specs.Grammar.{◌to◌, ◌∈◌, one, or_else, optional, is_end}
-use Rattle.text.specs.Numbers.{DIGIT, digits, digits1, decimal_point, digit1_9, e, minus, plus, zero, int, frac, sign, exp, frac_or_exp, is_float}
+use Rattle.text.specs.Numbers.{DIGIT, is_e, digits, digits1, decimal_point, digit1_9, e, minus, plus, zero, int, frac, sign, exp, frac_or_exp, is_float}
 use Rattle.text.proofs.Reading.{le_or_lt, drop_over, below_range}
+
+-- ---- kinds of octets
+
+-- from `0` on an octet is a digit up to `9`
+pub digit_or_above : (c : ℕ) → 0x30 ≤ c → leb c 0x39 ≡ DIGIT c
+digit_or_above c h = simp (le-leb 0x30 c h)
+
+-- below `0` none is
+pub below_digits : (c : ℕ) → c < 0x30 → false ≡ DIGIT c
+below_digits c h = sym (below_range 0x30 0x39 c h)
+
+-- `e` is one
+pub small_e : (c : ℕ) → c ≡ 0x65 → true ≡ is_e c
+small_e c h = simp h
+
+-- and another octet is one if it is `E`
+pub maybe_capital_e : (c : ℕ) → (c ≡ 0x65 → ⊥) → eqb c 0x45 ≡ is_e c
+maybe_capital_e c h = simp (ne_eqb c 0x65 h)
 
 -- ---- one octet
 
