@@ -55,13 +55,18 @@ table_short words sizes k w h = simp length-take (omega (arith, w.tables k h))
 
 -- a row among the names is a small number
 pub few_names :
-    (words sizes names : List ℕ) (found : Option ℕ) → Within sizes → names ≡ table_of words sizes 1
-    → IfSome found (λ row. row < rows_of names name_width) → IfSome found (λ row. row ≤ 10320)
+    (words sizes names : List ℕ) (row : ℕ) → Within sizes → names ≡ table_of words sizes 1 → row ≤ rows_of names name_width → row ≤ 10320
 unfolding rows_of
-few_names words sizes names None w e h = h
-few_names words sizes names (Some row) w e h =
+few_names words sizes names row w e h =
     let l : length names ≤ 20640 = rw e (table_short words sizes 1 w (omega arith)) in
     omega arith
+
+-- and so is one that was found
+pub few_found :
+    (words sizes names : List ℕ) (found : Option ℕ) → Within sizes → names ≡ table_of words sizes 1
+    → IfSome found (λ row. row < rows_of names name_width) → IfSome found (λ row. row ≤ 10320)
+few_found words sizes names None w e h = h
+few_found words sizes names (Some row) w e h = few_names words sizes names row w e (omega (arith, h))
 
 -- so many words or bytes, as often as a word can say, are counted without wrapping
 pub copies_fit : (count times : ℕ) → count ≤ 69632 → times ≤ 4294967295 → count * times < 18446744073709551616
