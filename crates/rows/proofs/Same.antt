@@ -8,6 +8,7 @@ use native.Mathlib.Numerals.{add-one}
 use native.Mathlib.Omega.{arith}
 use borrow.Author.Tests.{not-true, not-false}
 use lib.Dec.{eqb}
+use lib.Pointwise.{pointwise}
 use lib.ListN.{length, get_or, take, drop, length-take, length-drop}
 use lib.Seq.{take-suc, take_all, drop-drop, length-take-le}
 use Rattle.rows.specs.Strings.{same}
@@ -22,6 +23,14 @@ unequal_lengths (x ∷ a) (y ∷ b) h = rw (unequal_lengths a b (λ e. h (ap suc
 
 pub same_lengths : (a b : List ℕ) → (length a ≡ length b → ⊥) → false ≡ same a b
 same_lengths a b h = sym (unequal_lengths a b h)
+
+-- what the library's `==` looks at
+pub same_pointwise : (a b : List ℕ) → pointwise eqb a b ≡ same a b
+unfolding same
+same_pointwise [] [] = refl
+same_pointwise [] (y ∷ b) = refl
+same_pointwise (x ∷ a) [] = refl
+same_pointwise (x ∷ a) (y ∷ b) = ap (λ (r : Bool). eqb x y && r) (same_pointwise a b)
 
 -- ---- byte by byte
 
