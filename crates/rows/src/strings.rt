@@ -50,7 +50,7 @@ fn is_same_by<const SIZE: usize>(a: &[u8], b: &[u8]) -> bool
 }
 
 // From so many bytes on the library's `==` is the quicker one.
-const LONG: usize = 64;
+const LONG: usize = 256;
 
 // The same bytes. Below `LONG` it is no `==`, since every search for a name stands on it: on texts of 4 to 16 bytes that are the
 // same, or differ late, the library's takes 1.3 to 2 times as long (12 bytes: 6.0 against 3.3 ns, 16 bytes: 6.0 against 3.1).
