@@ -209,13 +209,12 @@ fn put_tables(text: &mut Room, case: &Case) -> usize {
     put_all(text, shape, case.own.as_bytes())
 }
 
-// A case whose tables are no table file would have no answer.
-fn answer(out: &impl Print, case: &Case) {
-    let mut text = file::new_text();
-    let length = put_tables(&mut text, case);
+// A case whose tables are no table file would have no answer. The pool and the words stand at the head of a function of their own: behind the text of
+// `answer` the compiler clears them twice.
+fn answer_text(out: &impl Print, case: &Case, text: &[u8]) {
     let mut pool = layout::new_pool();
     let mut words = layout::new_words();
-    let Ok(contents) = table_file::read(file::bytes(&text, length), &mut pool, &mut words) else {
+    let Ok(contents) = table_file::read(text, &mut pool, &mut words) else {
         return;
     };
     let sizes = contents.sizes;
@@ -232,6 +231,12 @@ fn answer(out: &impl Print, case: &Case) {
     let _ = print!(out; "{name} ");
     answer_run(out, &held, case.choices, &mut data[..room], &mut errors);
     say::words(out, b"\n");
+}
+
+fn answer(out: &impl Print, case: &Case) {
+    let mut text = file::new_text();
+    let length = put_tables(&mut text, case);
+    answer_text(out, case, file::bytes(&text, length));
 }
 
 fn main(rt: HostRuntime) {

@@ -8,6 +8,7 @@ use Rattle.rows.specs.Document.{set_at, field_selection, selection_at}
 use Rattle.rows.specs.declared.layout.Range.{Range}
 use Rattle.rows.specs.declared.document.Selected.TheVariants.{Field}
 use Rattle.codes.specs.declared.outcome.Outcome.{Outcome}
+use Rattle.codes.specs.declared.outcome.Outcome.TheVariants.{TooFar, TooManyFields}
 use Rattle.codes.specs.Outcome.{code_of, most_collected}
 use Rattle.graphql.specs.Run.{Choices, M, stop, done, pure, when}
 use Rattle.graphql.specs.Lookup.{any, rows_in, fragment_named}
@@ -35,6 +36,12 @@ pub record FieldRow (selections : List ℕ) (row : ℕ) : Type 0 where
 -- what is gathered, or why collecting stops
 abbrev pub Collecting : Type 0
 Collecting = Result Gathered Outcome
+
+-- The outcomes with which collecting stops, and no others: a 33rd fragment would be open, or a 129th field is collected.
+abbrev pub StopsCollecting : Outcome → Type 0
+StopsCollecting TooFar = Unit {0}
+StopsCollecting TooManyFields = Unit {0}
+StopsCollecting o = ⊥
 
 -- the groups, with the fields of these rows put to them in order
 unfoldable pub groups_of : (selections : List ℕ) → List Group → List ℕ → List Group

@@ -1,8 +1,8 @@
 // CollectFields: the rows of the fields of a selection set, in the order in which they are met.
-ghost use Rattle.std.specs.Prelude.{◌≡◌, ◌+◌, ◌≤◌, ◌<◌, length};
+ghost use Rattle.std.specs.Prelude.{◌≡◌, ◌+◌, ◌≤◌, ◌<◌, length, IfErr};
 ghost use Rattle.rows.specs.Limits.{most_selections};
 ghost use Rattle.codes.specs.Outcome.{most_collected};
-ghost use Rattle.collecting.specs.Collecting.{Collectable, CollectsField, CollectsSet, CollectsSpread, CollectsInline, CollectsSelection, CollectsRows};
+ghost use Rattle.collecting.specs.Collecting.{Collectable, StopsCollecting, CollectsField, CollectsSet, CollectsSpread, CollectsInline, CollectsSelection, CollectsRows};
 ghost use Rattle.tables.specs.Tables.{lent};
 
 use crate::conditions::is_dropped;
@@ -33,7 +33,8 @@ pub const NOTHING_YET: Gathered = Gathered {
 // What is gathered with one field more; or why collecting stops: a 33rd fragment would be open, or a 129th field collected.
 fn collect_field(list: &mut [u16], row: u32, gathered: Gathered) -> Result<Gathered, Outcome>
     requires { (length list.old ≡ most_collected) × (row < most_selections) }
-    ensures { CollectsField row list.old gathered result list.new }
+    ensures collects { CollectsField row list.old gathered result list.new }
+    ensures refusal { IfErr result StopsCollecting }
 {
     let count = gathered.count;
     if MOST_COLLECTED <= count {
@@ -57,7 +58,8 @@ fn open_set(
     gathered: Gathered,
 ) -> Result<Gathered, Outcome>
     requires { let t = lent tables.now in Collectable t.types t.sets t.fragments list.old }
-    ensures { let t = lent tables.now in CollectsSet t.types t.members t.sets t.selections t.fragments t.nodes t.variables room object set list.old gathered result list.new }
+    ensures collects { let t = lent tables.now in CollectsSet t.types t.members t.sets t.selections t.fragments t.nodes t.variables room object set list.old gathered result list.new }
+    ensures refusal { IfErr result StopsCollecting }
 {
     if room == 0 {
         return Err(Outcome::TooFar);
@@ -77,7 +79,8 @@ fn collect_spread(
     gathered: Gathered,
 ) -> Result<Gathered, Outcome>
     requires { let t = lent tables.now in Collectable t.types t.sets t.fragments list.old }
-    ensures { let t = lent tables.now in CollectsSpread t.types t.members t.sets t.selections t.fragments t.nodes t.variables room object name list.old gathered result list.new }
+    ensures collects { let t = lent tables.now in CollectsSpread t.types t.members t.sets t.selections t.fragments t.nodes t.variables room object name list.old gathered result list.new }
+    ensures refusal { IfErr result StopsCollecting }
 {
     let found = fragment_named(tables.fragments, name);
     let Some(row) = found else {
@@ -108,7 +111,8 @@ fn collect_inline(
     gathered: Gathered,
 ) -> Result<Gathered, Outcome>
     requires { let t = lent tables.now in Collectable t.types t.sets t.fragments list.old }
-    ensures { let t = lent tables.now in CollectsInline t.types t.members t.sets t.selections t.fragments t.nodes t.variables room object condition set list.old gathered result list.new }
+    ensures collects { let t = lent tables.now in CollectsInline t.types t.members t.sets t.selections t.fragments t.nodes t.variables room object condition set list.old gathered result list.new }
+    ensures refusal { IfErr result StopsCollecting }
 {
     if !inline_applies(tables, object, condition) {
         return Ok(gathered);
@@ -126,7 +130,8 @@ fn collect_selection(
     gathered: Gathered,
 ) -> Result<Gathered, Outcome>
     requires { let t = lent tables.now in (Collectable t.types t.sets t.fragments list.old) × (row < most_selections) }
-    ensures { let t = lent tables.now in CollectsSelection t.types t.members t.sets t.selections t.fragments t.nodes t.variables room object row list.old gathered result list.new }
+    ensures collects { let t = lent tables.now in CollectsSelection t.types t.members t.sets t.selections t.fragments t.nodes t.variables room object row list.old gathered result list.new }
+    ensures refusal { IfErr result StopsCollecting }
 {
     let selection = selection_at(tables.selections, row);
     let what = selection.what;
@@ -156,7 +161,8 @@ pub fn collect_fields(
     gathered: Gathered,
 ) -> Result<Gathered, Outcome>
     requires { let t = lent tables.now in (Collectable t.types t.sets t.fragments list.old) × (rows.first + rows.count ≤ most_selections) }
-    ensures { let t = lent tables.now in CollectsRows t.types t.members t.sets t.selections t.fragments t.nodes t.variables room object rows list.old gathered result list.new }
+    ensures collects { let t = lent tables.now in CollectsRows t.types t.members t.sets t.selections t.fragments t.nodes t.variables room object rows list.old gathered result list.new }
+    ensures refusal { IfErr result StopsCollecting }
 {
     let first = rows.first;
     let count = rows.count;

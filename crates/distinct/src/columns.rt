@@ -40,6 +40,27 @@ pub fn note_since(t: &[u32], width: usize, column: usize, since: &mut [u16]) -> 
     rows
 }
 
+// No two rows of the range have the same word in the column: by the note on the range's end where there is one.
+pub fn is_distinct_since(
+    t: &[u32],
+    width: usize,
+    column: usize,
+    since: &[u16],
+    known: usize,
+    rows: Range,
+) -> bool
+    requires width_bound { (width ≤ 16) × (column < 16) }
+    requires known_in_bounds { (known < length since.now) × Since (other t.now width column) known since.now }
+    ensures { result ≡ distinct t.now width column rows }
+{
+    let first = rows.first;
+    let end = (first as usize) + (rows.count as usize);
+    if end <= known {
+        return (since[end] as u32) <= first;
+    }
+    is_distinct(t, width, column, rows)
+}
+
 // A table and the notes on one of its columns. Contracts see the table.
 #[derive(Drop)]
 pub struct Noted<'a, const WIDTH: usize, const COLUMN: usize> {
@@ -76,16 +97,11 @@ impl<'a, const WIDTH: usize, const COLUMN: usize> Noted<'a, WIDTH, COLUMN> {
         self.table
     }
 
-    // No two rows of the range have the same word in the column: by the note on the range's end where there is one.
+    // No two rows of the range have the same word in the column.
     pub fn is_distinct(&self, rows: Range) -> bool
         ensures { result ≡ distinct self.now WIDTH COLUMN rows }
     {
-        let first = rows.first;
-        let end = (first as usize) + (rows.count as usize);
-        if end <= self.known {
-            return (self.since[end] as u32) <= first;
-        }
-        is_distinct(self.table, WIDTH, COLUMN, rows)
+        is_distinct_since(self.table, WIDTH, COLUMN, self.since, self.known, rows)
     }
 }
 

@@ -133,9 +133,10 @@ module _ {Q : Request} {plans spans hints : List ℕ} {path : Path} {s : State} 
       }
 
     -- The set cannot be collected.
-    pub object_stops : {cs text errors : List ℕ} {o : Outcome} {d : Done} → p ≡ Err o → d ≡ record { what = Err (Stop o); state = s }
+    pub object_stops : {cs text errors : List ℕ} {o : Outcome} {code : ℕ} {d : Done} → p ≡ Err o → code ≡ code_of o
+        → d ≡ record { what = Err (Stop code); state = s }
         → ObjectDone Q cs text errors plans spans hints path s plan group object rows d text errors plans1 spans hints1
-    object_stops {cs} {o = o} q e = let t : Stopped Q set plans s.top object (code_of o) plans1 = rw q at came in rw e (record {
+    object_stops {cs} {o = o} q c e = let t : Stopped Q set plans s.top object (code_of o) plans1 = rw q at came in rw (e, c) (record {
       left = record {
         further = omega arith;
         kept = f.kept;
@@ -143,7 +144,7 @@ module _ {Q : Request} {plans spans hints : List ℕ} {path : Path} {s : State} 
         unspanned = kept_all spans (128 * path.count);
         hinted = sized;
       };
-      executes = rw (stops Q path object rows set plans plans1 s.top (code_of o) t (drop s.choice cs)) (stopped_gives o);
+      executes = rw (stops Q path object rows set plans plans1 s.top (code_of o) t (drop s.choice cs)) (stopped_gives (code_of o));
     })
 
   -- ---- In a store of its own
@@ -207,9 +208,10 @@ module _ {Q : Request} {plans spans hints : List ℕ} {path : Path} {s : State} 
               → Gives as_data cs text errors s x (done_apart d s.top) text2 errors2
           gone g = record { what = g.what; wrote = g.wrote; noted = g.noted; chosen = g.chosen }
 
-    pub apart_stops : {cs text errors : List ℕ} {o : Outcome} {d : Done} → p ≡ Err o → d ≡ record { what = Err (Stop o); state = s }
+    pub apart_stops : {cs text errors : List ℕ} {o : Outcome} {code : ℕ} {d : Done} → p ≡ Err o → code ≡ code_of o
+        → d ≡ record { what = Err (Stop code); state = s }
         → ObjectDone Q cs text errors plans spans hints path s plan group object rows d text errors plans spans hints
-    apart_stops {cs} {o = o} q e = let t : Stopped Q set store 0 object (code_of o) store1 = rw q at alone in rw e (record {
+    apart_stops {cs} {o = o} q c e = let t : Stopped Q set store 0 object (code_of o) store1 = rw q at alone in rw (e, c) (record {
       left = left_same path.count h.ready.standing;
-      executes = rw (stops Q path object rows set store store1 0 (code_of o) t (drop s.choice cs)) (stopped_gives o);
+      executes = rw (stops Q path object rows set store store1 0 (code_of o) t (drop s.choice cs)) (stopped_gives (code_of o));
     })

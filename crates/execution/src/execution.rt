@@ -96,7 +96,7 @@ fn execute_apart(
     let own = match plan_apart(tables, plans, &mut store, plan, group, object) {
         Ok(own) => own,
         Err(outcome) => {
-            return stopped(s, outcome);
+            return stopped(s, outcome.code());
         }
     };
     let d = execute_selection_set(
@@ -139,7 +139,7 @@ fn execute_object(
     let planned = match plan_for(tables, plans, hints, s.top, plan, group, object) {
         Ok(planned) => planned,
         Err(outcome) => {
-            return stopped(s, outcome);
+            return stopped(s, outcome.code());
         }
     };
     match planned {

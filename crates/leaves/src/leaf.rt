@@ -85,33 +85,33 @@ pub fn leaf_sort(tables: &Tables, leaf: Leaf) -> Sort
     }
 }
 
-fn literal_string<'a>(tables: &Tables<'a>, row: u32) -> &'a [u8]
-    ensures { let t = lent tables.now in result.now ≡ bytes_of (string_of (plain_literal t.pool t.names (literal_at t.literals row))) }
+fn literal_string<'a>(pool: &'a [u8], tables: &Tables, row: u32) -> &'a [u8]
+    ensures { let t = lent tables.now in result.now ≡ bytes_of (string_of (plain_literal pool.now t.names (literal_at t.literals row))) }
 {
     match literal_at(tables.literals, row) {
-        Literal::String(string) => text_of(tables.pool, string),
-        Literal::Enum(name) => name_text(tables.pool, tables.names, name),
+        Literal::String(string) => text_of(pool, string),
+        Literal::Enum(name) => name_text(pool, tables.names, name),
         _ => &[],
     }
 }
 
-fn node_string<'a>(tables: &Tables<'a>, row: u32) -> &'a [u8]
-    ensures { let t = lent tables.now in result.now ≡ bytes_of (string_of (plain_value t.pool (node_at t.nodes row))) }
+fn node_string<'a>(pool: &'a [u8], tables: &Tables, row: u32) -> &'a [u8]
+    ensures { let t = lent tables.now in result.now ≡ bytes_of (string_of (plain_value pool.now (node_at t.nodes row))) }
 {
     match node_at(tables.nodes, row) {
-        Node::String(string) => text_of(tables.pool, string),
+        Node::String(string) => text_of(pool, string),
         _ => &[],
     }
 }
 
-// The bytes of a leaf that is a string.
-pub fn leaf_string<'a>(tables: &Tables<'a>, leaf: Leaf) -> &'a [u8]
-    ensures { let t = lent tables.now in SpellsLeaf t.pool t.names t.nodes t.literals leaf result.now }
+// The bytes of a leaf that is a string. The pool goes by itself: the bytes borrow it alone, and no other table.
+pub fn leaf_string<'a>(pool: &'a [u8], tables: &Tables, leaf: Leaf) -> &'a [u8]
+    ensures { let t = lent tables.now in SpellsLeaf pool.now t.names t.nodes t.literals leaf result.now }
 {
     match leaf {
-        Leaf::Node(row) => node_string(tables, row),
-        Leaf::Name(name) => name_text(tables.pool, tables.names, name),
-        Leaf::Literal { ty: _, row } | Leaf::Default(row) => literal_string(tables, row),
+        Leaf::Node(row) => node_string(pool, tables, row),
+        Leaf::Name(name) => name_text(pool, tables.names, name),
+        Leaf::Literal { ty: _, row } | Leaf::Default(row) => literal_string(pool, tables, row),
     }
 }
 

@@ -1,8 +1,8 @@
 // The fields beneath a group, and those of the operation.
-ghost use Rattle.std.specs.Prelude.{◌+◌, ◌*◌, ◌≤◌, ◌<◌, length};
+ghost use Rattle.std.specs.Prelude.{◌+◌, ◌*◌, ◌≤◌, ◌<◌, length, IfErr};
 ghost use Rattle.rows.specs.Document.{set_at};
 ghost use Rattle.codes.specs.Outcome.{most_open};
-ghost use Rattle.collecting.specs.Collecting.{Collectable, CollectsRows};
+ghost use Rattle.collecting.specs.Collecting.{Collectable, StopsCollecting, CollectsRows};
 ghost use Rattle.planning.specs.Plans.{members_of, most_words, fields_of, CollectsChild, CollectsOwned, Gathers, Lookable};
 ghost use Rattle.tables.specs.Tables.{lent};
 
@@ -25,7 +25,8 @@ fn collect_child(
     gathered: Gathered,
 ) -> Result<Gathered, Outcome>
     requires { let t = lent tables.now in Collectable t.types t.sets t.fragments list.old }
-    ensures { let t = lent tables.now in CollectsChild t.types t.members t.sets t.selections t.fragments t.nodes t.variables object row list.old gathered result list.new }
+    ensures collects { let t = lent tables.now in CollectsChild t.types t.members t.sets t.selections t.fragments t.nodes t.variables object row list.old gathered result list.new }
+    ensures refusal { IfErr result StopsCollecting }
 {
     let field = field_selection(tables.selections, row);
     if field.set == 0 {
@@ -46,7 +47,8 @@ fn collect_owned(
     gathered: Gathered,
 ) -> Result<Gathered, Outcome>
     requires { let t = lent tables.now in Collectable t.types t.sets t.fragments list.old × (8 * row + 1 < length plans.now) }
-    ensures { let t = lent tables.now in CollectsOwned t.types t.members t.sets t.selections t.fragments t.nodes t.variables plans.now object row group list.old gathered result list.new }
+    ensures collects { let t = lent tables.now in CollectsOwned t.types t.members t.sets t.selections t.fragments t.nodes t.variables plans.now object row group list.old gathered result list.new }
+    ensures refusal { IfErr result StopsCollecting }
 {
     let owner = word(plans, row, FIELD_GROUP) as usize;
     if owner != group {
@@ -67,7 +69,8 @@ fn collect_children(
     group: usize,
 ) -> Result<Gathered, Outcome>
     requires { let t = lent tables.now in Collectable t.types t.sets t.fragments list.old × (8 * (first + fields) ≤ length plans.now) × (length plans.now ≤ most_words) }
-    ensures { let t = lent tables.now in Gathers t.types t.members t.sets t.selections t.fragments t.nodes t.variables object (fields_of plans.now first group fields) list.old result list.new }
+    ensures gathers { let t = lent tables.now in Gathers t.types t.members t.sets t.selections t.fragments t.nodes t.variables object (fields_of plans.now first group fields) list.old result list.new }
+    ensures refusal { IfErr result StopsCollecting }
 {
     let mut so_far = NOTHING_YET;
     for i in 0..fields {
@@ -86,7 +89,8 @@ pub fn collect_group(
     group: usize,
 ) -> Result<Gathered, Outcome>
     requires { let t = lent tables.now in Collectable t.types t.sets t.fragments list.old × Lookable plans.now plan group }
-    ensures { let t = lent tables.now in Gathers t.types t.members t.sets t.selections t.fragments t.nodes t.variables object (members_of plans.now plan group) list.old result list.new }
+    ensures gathers { let t = lent tables.now in Gathers t.types t.members t.sets t.selections t.fragments t.nodes t.variables object (members_of plans.now plan group) list.old result list.new }
+    ensures refusal { IfErr result StopsCollecting }
 {
     let groups = group_count(plans, plan);
     let fields = field_count(plans, plan);
@@ -106,7 +110,8 @@ pub fn collect_group(
 // The fields of the operation's set.
 pub fn collect_operation(tables: &Tables, list: &mut [u16], root: u32) -> Result<Gathered, Outcome>
     requires { let t = lent tables.now in Collectable t.types t.sets t.fragments list.old }
-    ensures { let t = lent tables.now in CollectsRows t.types t.members t.sets t.selections t.fragments t.nodes t.variables most_open root (set_at t.sets 0) list.old (record { visited = 0; count = 0 }) result list.new }
+    ensures collects { let t = lent tables.now in CollectsRows t.types t.members t.sets t.selections t.fragments t.nodes t.variables most_open root (set_at t.sets 0) list.old (record { visited = 0; count = 0 }) result list.new }
+    ensures refusal { IfErr result StopsCollecting }
 {
     collect_fields(
         tables,

@@ -1,6 +1,7 @@
 // The plan for a group and an object type: found again, or made.
-ghost use Rattle.std.specs.Prelude.{◌≡◌, ◌&&◌, ◌+◌, ◌*◌, ◌%◌, ◌≤◌, ◌<◌, eqb, ltb, length};
+ghost use Rattle.std.specs.Prelude.{◌≡◌, ◌&&◌, ◌+◌, ◌*◌, ◌%◌, ◌≤◌, ◌<◌, eqb, ltb, length, IfErr};
 ghost use Rattle.rows.specs.Limits.{most_types};
+ghost use Rattle.collecting.specs.Collecting.{StopsCollecting};
 ghost use Rattle.planning.specs.Plans.{word_at, most_words, PutHead, Puttable, PutPlan, Lookable, PlansFor, Plannable, Storable, operation_of, beneath_group, PlansAlone, roomy};
 ghost use Rattle.tables.specs.Tables.{lent};
 
@@ -118,7 +119,8 @@ fn make_plan(
     object: u32,
 ) -> Result<Plan, Outcome>
     requires { let t = lent tables.now in Plannable t.refs t.types t.fields t.sets t.selections t.fragments plans.old top plan group object × (8 * (top + 256) ≤ length plans.old) }
-    ensures { let t = lent tables.now in PlansFor t.refs t.types t.members t.fields t.sets t.selections t.fragments t.nodes t.variables plans.old top plan group object (roomy result) plans.new }
+    ensures planned { let t = lent tables.now in PlansFor t.refs t.types t.members t.fields t.sets t.selections t.fragments t.nodes t.variables plans.old top plan group object (roomy result) plans.new }
+    ensures refusal { IfErr result StopsCollecting }
 {
     let mut list = [0u16; MOST_COLLECTED];
     let gathered = collect_group(tables, plans, &mut list, object, plan, group)?;
@@ -139,7 +141,8 @@ pub fn plan_for(
     object: u32,
 ) -> Result<Option<Plan>, Outcome>
     requires { let t = lent tables.now in Plannable t.refs t.types t.fields t.sets t.selections t.fragments plans.old top plan group object × (length hints.old ≡ 1024) }
-    ensures { let t = lent tables.now in PlansFor t.refs t.types t.members t.fields t.sets t.selections t.fragments t.nodes t.variables plans.old top plan group object result plans.new }
+    ensures planned { let t = lent tables.now in PlansFor t.refs t.types t.members t.fields t.sets t.selections t.fragments t.nodes t.variables plans.old top plan group object result plans.new }
+    ensures refusal { IfErr result StopsCollecting }
 {
     let slot = hint_at(plan, group, object);
     let hint = hints[slot] as usize;
@@ -160,7 +163,8 @@ pub fn plan_for(
 // The plan of the operation's own set, at the beginning of a store.
 pub fn plan_operation(tables: &Tables, store: &mut [u16], object: u32) -> Result<Plan, Outcome>
     requires { let t = lent tables.now in Storable t.refs t.types t.fields t.sets t.selections t.fragments store.old object }
-    ensures { let t = lent tables.now in PlansAlone t.refs t.types t.members t.fields t.sets t.selections t.fragments t.nodes t.variables operation_of object store.old result store.new }
+    ensures planned { let t = lent tables.now in PlansAlone t.refs t.types t.members t.fields t.sets t.selections t.fragments t.nodes t.variables operation_of object store.old result store.new }
+    ensures refusal { IfErr result StopsCollecting }
 {
     let mut list = [0u16; MOST_COLLECTED];
     let gathered = collect_operation(tables, &mut list, object)?;
@@ -177,7 +181,8 @@ pub fn plan_apart(
     object: u32,
 ) -> Result<Plan, Outcome>
     requires { let t = lent tables.now in Storable t.refs t.types t.fields t.sets t.selections t.fragments store.old object × Lookable plans.now plan group }
-    ensures { let t = lent tables.now in PlansAlone t.refs t.types t.members t.fields t.sets t.selections t.fragments t.nodes t.variables (beneath_group plans.now plan group) object store.old result store.new }
+    ensures planned { let t = lent tables.now in PlansAlone t.refs t.types t.members t.fields t.sets t.selections t.fragments t.nodes t.variables (beneath_group plans.now plan group) object store.old result store.new }
+    ensures refusal { IfErr result StopsCollecting }
 {
     let mut list = [0u16; MOST_COLLECTED];
     let gathered = collect_group(tables, plans, &mut list, object, plan, group)?;

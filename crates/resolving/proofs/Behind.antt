@@ -20,6 +20,7 @@ use Rattle.walking.specs.declared.state.State.{State}
 use Rattle.walking.specs.declared.state.Kind.TheVariants.{LeftOut}
 use Rattle.walking.specs.declared.state.Failure.TheVariants.{Here, Stop}
 use Rattle.std.specs.Prelude.{Some, None, Ok, Err}
+use Rattle.codes.specs.Outcome.{code_of}
 use Rattle.codes.specs.declared.outcome.Outcome.{Outcome}
 use Rattle.input_coercion.specs.declared.check.Failure.{Failure}
 use Rattle.input_coercion.specs.declared.check.Uncoerced.TheVariants as uncoerced
@@ -89,12 +90,12 @@ module _ {path : Path} {last : ℕ} {asked : Asked} {pool names refs types membe
       steps = λ arguments sets selections given fragments answers g m at i. failed_steps _ path g b m f.error f.place last i h w;
     })
 
-    pub answers_stopped : {o : Outcome} {d r : Done} {text' : List ℕ} → a ≡ Err (uncoerced.Stop o) → d ≡ record { what = Err (Stop o); state = s }
-        → Finishes b start d text r text'
+    pub answers_stopped : {o : Outcome} {code : ℕ} {d r : Done} {text' : List ℕ} → a ≡ Err (uncoerced.Stop o) → code ≡ code_of o
+        → d ≡ record { what = Err (Stop code); state = s } → Finishes b start d text r text'
         → AnswersBehind path last asked pool names refs types members fields nodes literals variables ty b start a text errors s (step.Finished r)
         text' errors
-    answers_stopped {o} i e f = rw i (record {
-      steps = λ arguments sets selections given fragments answers g m at i. stopped_steps _ path g b m o i (rw e at f);
+    answers_stopped {o} i c e f = rw i (record {
+      steps = λ arguments sets selections given fragments answers g m at i. stopped_steps _ path g b m (code_of o) i (rw (e, c) at f);
     })
 
 -- ---- `__typename`

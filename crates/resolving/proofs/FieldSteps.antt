@@ -37,7 +37,6 @@ use Rattle.resolving.specs.Sound.{asking, Askable, Answerable}
 use Rattle.resolving.specs.Steps.{keyed_by, doing, group_from, ExecutesField}
 use Rattle.resolving.specs.Field.{Answered, spot_at, typename_in, field_value, TypenameBehind, AnswersField, AnswersBehind, Completable, Resolvable}
 use Rattle.resolving.specs.declared.resolve.Asked.{Asked}
-use Rattle.codes.specs.declared.outcome.Outcome.TheVariants.{TooFar}
 use Rattle.resolving.specs.declared.field.Step.{Step}
 use Rattle.resolving.specs.declared.field.Step.TheVariants as step
 use Rattle.resolving.proofs.Stepping.{run_full, run_down, steps_same}
@@ -101,15 +100,16 @@ module _ {pool names refs types members fields arguments selections gives nodes 
         (rw (group_is Q path object rows (group_from selections first more) (undefined_is _ says u)) (placed_gives absent (stay text s.at)), refl);
   })
 
-  pub field_full : {d : Done} → (own ≡ 0 → ⊥) → path.count ≤ 32 → 32 ≤ path.count → d ≡ record { what = Err (Stop TooFar); state = s }
+  pub field_full : {code : ℕ} {d : Done} → (own ≡ 0 → ⊥) → path.count ≤ 32 → 32 ≤ path.count → code ≡ too_far
+      → d ≡ record { what = Err (Stop code); state = s }
       → ExecutesField pool names refs types members fields arguments selections gives nodes literals variables answers path first object rows text
       errors s (step.Finished d) text errors
   unfolding execute_group
-  field_full n h l d = rw d (record {
+  field_full n h l c d = rw (d, c) (record {
     steps = λ sets fragments cs more.
         let Q = asking pool names refs types members fields arguments sets selections gives fragments nodes literals variables answers in
         let o = says_some (definition_of (schema types fields) object (field_selection selections first).name) (λ z. n (says ∙ sym z)) in
-        (rw (group_is Q path object rows (group_from selections first more) o.1, run_full Q h l) (stopped_gives TooFar), refl);
+        (rw (group_is Q path object rows (group_from selections first more) o.1, run_full Q h l) (stopped_gives too_far), refl);
   })
 
   -- ---- behind its key

@@ -36,7 +36,6 @@ use Rattle.resolving.specs.Field.{spot_at, CompletesBehind, Completable}
 use Rattle.resolving.specs.declared.resolve.Asked.{Asked}
 use Rattle.resolving.specs.declared.resolve.Given.{Given}
 use Rattle.codes.specs.declared.errors.FieldError.{FieldError}
-use Rattle.codes.specs.declared.outcome.Outcome.TheVariants.{TooFar}
 use Rattle.resolving.specs.declared.field.Step.{Step}
 use Rattle.resolving.specs.declared.field.Step.TheVariants as step
 use Rattle.resolving.proofs.Stepping.{run_full, run_down, steps_same}
@@ -61,11 +60,11 @@ item_is Q path at last inner row room seg g args = rw (← seg) (run_down Q room
 
 module _ {pool names refs types members fields arguments gives nodes literals variables answers : List ℕ} {path : Path} {at : ℕ} {asked : Asked}
     {inner row : ℕ} {text errors : List ℕ} {s : State} where
-  pub item_full : {d : Done} → path.count ≤ 32 → 32 ≤ path.count → d ≡ record { what = Err (Stop TooFar); state = s }
+  pub item_full : {code : ℕ} {d : Done} → path.count ≤ 32 → 32 ≤ path.count → code ≡ too_far → d ≡ record { what = Err (Stop code); state = s }
       → CompletesItem pool names refs types members fields arguments gives nodes literals variables answers path at asked inner row text errors s
       (step.Finished d) text errors
-  item_full h l d = rw d (record {
-    steps = λ sets selections fragments cs g args asks. (rw (run_full _ h l) (stopped_gives TooFar), refl);
+  item_full h l c d = rw (d, c) (record {
+    steps = λ sets selections fragments cs g args asks. (rw (run_full _ h l) (stopped_gives too_far), refl);
   })
 
   module _ (last : ℕ) (room : path.count < 32) (seg : segment_of last ≡ index at) where

@@ -22,8 +22,6 @@ use Rattle.values.specs.declared.sort.Sort.{Sort}
 use Rattle.echoing.specs.Echo.{Put}
 use Rattle.completing.specs.Judged.{judged, JudgesLeaf}
 use Rattle.completing.specs.Judged.{Verdict}
-use Rattle.codes.specs.declared.outcome.Outcome.{Outcome}
-use Rattle.codes.specs.declared.outcome.Outcome.TheVariants.{TooFar}
 use Rattle.leaves.specs.Leaves.{Means, PutsLeaf, SortsLeaf, SpellsLeaf}
 use Rattle.leaves.specs.declared.leaf.Leaf as code
 use Rattle.walking.specs.Gives.{moved_to}
@@ -78,13 +76,13 @@ comes Q sorts spells judges l m g p =
 
 module _ {pool names refs types members fields nodes literals variables : List ℕ} {code_leaf : code.Leaf} {text text' errors : List ℕ} {ty spot last : ℕ}
     {path : Path} {s : State} {w : Put} (h : PutsLeaf pool names refs types fields nodes literals variables code_leaf text s.at w text') where
-  pub leaf_too_far : {d : Done} → w ≡ None → d ≡ record { what = Err (Stop TooFar); state = s }
+  pub leaf_too_far : {code : ℕ} {d : Done} → w ≡ None → code ≡ too_far → d ≡ record { what = Err (Stop code); state = s }
       → CompletesAt pool names refs types members fields nodes literals variables ty code_leaf spot path last text errors s d text' errors
   unfolding when
-  leaf_too_far e q = rw q (record {
+  leaf_too_far e c q = rw (q, c) (record {
     level = refl;
     completes = λ arguments sets selections given fragments answers.
-        record { comes = λ cs g l o m. rw (too_many h l.json m e) (stopped_long TooFar h.long) };
+        record { comes = λ cs g l o m. rw (too_many h l.json m e) (stopped_long too_far h.long) };
   })
 
   module _ {end : ℕ} (e : w ≡ Some end) {sort : Sort} {string : List ℕ} {v : Verdict} (sorts : SortsLeaf refs types nodes literals code_leaf sort)

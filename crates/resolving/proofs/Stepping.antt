@@ -25,8 +25,6 @@ use Rattle.walking.specs.declared.state.State.{State}
 use Rattle.walking.specs.declared.state.Kind.TheVariants.{LeftOut}
 use Rattle.walking.specs.declared.state.Failure.TheVariants.{Here, Stop}
 use Rattle.std.specs.Prelude.{Ok, Err}
-use Rattle.codes.specs.Outcome.{code_of}
-use Rattle.codes.specs.declared.outcome.Outcome.{Outcome}
 use Rattle.walking.specs.declared.state.Done.{Done}
 use Rattle.walking.proofs.Ended.{words_none, try_settled, fails_gives, stopped_gives}
 use Rattle.resolving.specs.Steps.{keyed_by, doing, Steps}
@@ -111,10 +109,10 @@ module _ (Q : Request) (path : Path) (g : Group) (b : Bool) (m : M Val) {start :
   failed_steps e place last i h f = ended_steps h.level (λ cs. rw (i (drop s.choice cs)) (fails_gives here h)) f
 
   -- the run stopped
-  pub stopped_steps : {r : Done} {text' : List ℕ} (o : Outcome) → ((k : Choices) → m k ≡ halt (code_of o) k)
-      → Finishes b start (record { what = Err (Stop o); state = s }) text r text'
+  pub stopped_steps : {r : Done} {text' : List ℕ} (code : ℕ) → ((k : Choices) → m k ≡ halt code k)
+      → Finishes b start (record { what = Err (Stop code); state = s }) text r text'
       → StepsBehind Q path g start (try_nullify b m) text errors s (step.Finished r) text' errors
-  stopped_steps o i f = ended_steps refl (λ cs. rw (i (drop s.choice cs)) (stopped_gives o)) f
+  stopped_steps code i f = ended_steps refl (λ cs. rw (i (drop s.choice cs)) (stopped_gives code)) f
 
   -- a value that is left out: the label is taken back
   pub left_steps : ((k : Choices) → m k ≡ pure absent k)

@@ -269,7 +269,7 @@ fn complete_answered(
                 Step::Finished(finished(text, non_null, start, d))
             }
             Uncoerced::Stop(outcome) => {
-                Step::Finished(finished(text, non_null, start, stopped(s, outcome)))
+                Step::Finished(finished(text, non_null, start, stopped(s, outcome.code())))
             }
         },
     }
@@ -328,7 +328,7 @@ pub fn execute_field(
         return Step::Finished(left_out(s));
     }
     if MOST_SEGMENTS <= path.count {
-        return Step::Finished(stopped(s, Outcome::TooFar));
+        return Step::Finished(stopped(s, Outcome::TooFar.code()));
     }
     let field = field_selection(tables.selections, first);
     let place = selection_place(tables.selections, first);
@@ -381,7 +381,7 @@ pub fn complete_item(
     ensures { let t = lent tables.now in CompletesItem t.pool t.names t.refs t.types t.members t.fields t.arguments t.given t.nodes t.literals t.variables t.answers path index asked inner row text.old errors.old s result text.new errors.new }
 {
     if MOST_SEGMENTS <= path.count {
-        return Step::Finished(stopped(s, Outcome::TooFar));
+        return Step::Finished(stopped(s, Outcome::TooFar.code()));
     }
     let last = index_segment(index);
     let given = match resolve_row(tables, asked, row) {

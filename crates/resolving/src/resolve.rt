@@ -84,10 +84,10 @@ pub fn complete_leaf_value(
     ensures { let t = lent tables.now in CompletesAt t.pool t.names t.refs t.types t.members t.fields t.nodes t.literals t.variables ty leaf place path last text.old errors.old s result text.new errors.new }
 {
     let Some(end) = put_leaf(tables, text, s.at, leaf) else {
-        return stopped(s, Outcome::TooFar);
+        return stopped(s, Outcome::TooFar.code());
     };
     let sort = leaf_sort(tables, leaf);
-    let string = leaf_string(tables, leaf);
+    let string = leaf_string(tables.pool, tables, leaf);
     match judge_leaf(tables, ty, sort, string) {
         Ok(()) => placed(s, end, Kind::Leaf),
         Err(error) => fail(errors, s, Failure::Here, error, place, path, last),

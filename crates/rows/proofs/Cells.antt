@@ -1,12 +1,16 @@
 -- Where a cell stands, and the text behind a start and a length. Assumes nothing.
 use mathlib.Core.Path.{◌≡◌, sym, ◌∙◌}
 use mathlib.Core.List.{List}
-use Prim.Native.Nat.{ℕ, suc, ◌/◌, ◌+◌, ◌*◌, ◌-◌, ◌≤◌, ◌<◌}
-use native.Mathlib.Nat.{le_trans, mul-le-mul_right, div-mul-le_self, suc-mul, le_of_lt}
+use Prim.Native.Nat.{ℕ, suc, ◌/◌, ◌+◌, ◌*◌, ◌-◌, ◌≤◌, ◌<◌, ◌^◌}
+use native.Mathlib.Nat.{le_trans, mul-le-mul_right, div-mul-le_self, suc-mul, mul-le-mul, le_of_lt}
 use native.Mathlib.Omega.{arith}
 use lib.ListN.{length, take, drop, length-drop, drop_of_length-le}
 use lib.Seq.{take_all, take-nil}
 use Rattle.rows.specs.Rows.{rows_of}
+
+-- the product of a row number and a width is small
+pub cell_small : (row width : ℕ) → row < 2 ^ 40 → width ≤ 16 → row * width ≤ 2 ^ 40 * 16
+cell_small row width r w = mul-le-mul (le_of_lt r) w
 
 -- a column of a row that is there is there
 pub cell_there : (t : List ℕ) (width row column : ℕ) → column < width → row < rows_of t width → row * width + column < length t

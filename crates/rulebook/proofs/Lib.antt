@@ -1,1 +1,2 @@
+pub mod Chapters
 pub mod First

@@ -40,12 +40,20 @@ impl<'a> Pool<'a> {
         }
     }
 
+    // Known to be UTF-8 as a whole where `whole` says so, for a caller that knows it without a look.
+    pub fn known(bytes: &'a [u8], whole: bool) -> Self
+        requires { whole ≡ true → is_utf8 bytes.now ≡ true }
+        ensures { result ≡ bytes.now }
+    {
+        Pool { bytes, whole }
+    }
+
     // Looked at as a whole first.
     pub fn read(bytes: &'a [u8]) -> Self
         ensures { result ≡ bytes.now }
     {
         let whole = is_utf8(bytes);
-        Pool { bytes, whole }
+        Self::known(bytes, whole)
     }
 
     pub fn bytes(&self) -> &'a [u8]

@@ -1,5 +1,5 @@
 -- From what the walk left in the two buffers to what is handed back. Assumes nothing.
-use mathlib.Core.Path.{◌≡◌, refl, sym, ap, ◌∙◌}
+use mathlib.Core.Path.{◌≡◌, refl, ap, ◌∙◌}
 use mathlib.Core.Logic.{⊎_elim}
 use mathlib.Core.List.{List, [], ◌∷◌}
 use Prim.Native.Nat.{ℕ, ◌-◌, ◌≤◌, ◌<◌}
@@ -11,7 +11,6 @@ use borrow.Enum.Refused.{Among, opened}
 use denote.Enum.Declared.{tag_of}
 use Rattle.writing.specs.Wrote.{Wrote, Writes, zeroed_from}
 use Rattle.tokens.specs.Literal.{null_name}
-use Rattle.codes.specs.declared.outcome.Outcome.{Outcome}
 use Rattle.codes.specs.declared.outcome.Outcome.TheVariants.{Answered, TextTooLong, RecordsTooLong}
 use Rattle.codes.specs.declared.report.Reported.{Reported}
 use Rattle.codes.specs.Outcome.{code_of}
@@ -124,18 +123,18 @@ rewritten {before} {text} l w = record {
   shown = λ h. w.wrote.shown (omega arith);
 }
 
-stop_of : (x : Res Data) {a : Completed} {o : Outcome} → a ≡ Err (Stop o) → AnswerOf as_data x a → (log : Log) × (x ≡ stop (code_of o) log)
-stop_of (stop n w) {o = o} e h = let i = h.is in let z : h.outcome ≡ o = cc in (w, ap (λ (c : ℕ). stop c w) (sym h.numbered ∙ ap code_of z))
+stop_of : (x : Res Data) {a : Completed} {code : ℕ} → a ≡ Err (Stop code) → AnswerOf as_data x a → (log : Log) × (x ≡ stop code log)
+stop_of (stop n w) e h = (w, ap (λ (c : ℕ). stop c w) (cc))
 stop_of (failed here w c) e h = absurd (let z : ◌≡◌ {A = ℕ} 0 1 = cc in omega arith)
 stop_of (failed past_list w c) e h = absurd (let z : ◌≡◌ {A = ℕ} 0 1 = cc in omega arith)
 stop_of (done v w c) e h = absurd (let z : ◌≡◌ {A = ℕ} 0 1 = cc in omega arith)
 
 failed_of : (x : Res Data) {a : Completed} {f : Failure} → Among (0 ∷ 1 ∷ []) (tag_of failures f) → a ≡ Err f → AnswerOf as_data x a
     → (r : Reach) × (log : Log) × (c : Choices) × (x ≡ failed r log c)
-failed_of (stop n w) {f = f} k e h = let i = h.is in absurd (not_stop h.outcome (cc))
+failed_of (stop n w) {f = f} k e h = absurd (not_stop (cc))
   where
-    not_stop : (o : Outcome) → f ≡ Stop o → ⊥
-    not_stop o z = ⊎_elim (λ h. omega arith) (λ h. omega arith) (opened (rw z at k))
+    not_stop : f ≡ Stop n → ⊥
+    not_stop z = ⊎_elim (λ h. omega arith) (λ h. omega arith) (opened (rw z at k))
 failed_of (failed r w c) k e h = (r, w, c, refl)
 failed_of (done v w c) k e h = absurd (let z : ◌≡◌ {A = ℕ} 0 1 = cc in omega arith)
 
@@ -150,12 +149,11 @@ module _ {text errors text' errors' : List ℕ} {d : Done} {r : Reported} where
         rw p.3 (k.reports before noted p.0 p.1 (rw z at h.wrote) (rw y at h.noted));
   }
 
-  pub end_stopped : {f : Failure} {o : Outcome} {code : ℕ} → d.what ≡ Err f → f ≡ Stop o → code ≡ code_of o
+  pub end_stopped : {f : Failure} {code : ℕ} → d.what ≡ Err f → f ≡ Stop code
       → Reports (length text) (length errors) (refused code) r text' errors' → ReportsEnd text errors d r text' errors'
   unfolding ended fitted
-  end_stopped e q c told = record {
+  end_stopped e q k = record {
     reports = λ cs before noted s x z y g.
-        let k = rw c at told in
         let p = stop_of x (e ∙ ap Err q) g.what in
         let h = rw p.1 at g in
         rw (p.1, ← h.wrote, ← h.noted.long) k;

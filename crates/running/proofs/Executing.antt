@@ -108,11 +108,11 @@ module _ (T : Tables) where
   unfolding execute execute_selection_set ◌>>=◌ onward
   stops cs s = rw (s.stops cs)
 
-  pub stopped_before : (cs text errors : List ℕ) {r : Result Plan Outcome} {o : Outcome} {store store' : List ℕ} {d : Done} → r ≡ Err o
-      → PlansOperation store r store' → d ≡ record { what = Err (Stop o); state = at_start }
+  pub stopped_before : (cs text errors : List ℕ) {r : Result Plan Outcome} {o : Outcome} {code : ℕ} {store store' : List ℕ} {d : Done} → r ≡ Err o
+      → PlansOperation store r store' → code ≡ code_of o → d ≡ record { what = Err (Stop code); state = at_start }
       → Gives as_data cs text errors at_start (execute (record { tables = T }) cs) d text errors
   unfolding halt
-  stopped_before cs text errors {o = o} q p e = rw (e, stops cs (rw q at (p.comes P itself))) (stopped_gives o)
+  stopped_before cs text errors {o = o} q p c e = rw (e, c, stops cs (rw q at (p.comes P itself))) (stopped_gives (code_of o))
 
   -- ---- a plan: its groups
 

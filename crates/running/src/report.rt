@@ -1,7 +1,6 @@
 // What a run hands back: its counts, and two buffers with nothing else in them.
 ghost use Rattle.std.specs.Prelude.{◌≤◌, length};
 ghost use Rattle.rows.specs.Limits.{most_text_bytes, most_error_words};
-ghost use Rattle.codes.specs.Outcome.{code_of};
 ghost use Rattle.graphql.specs.Report.{refused, Reports};
 ghost use Rattle.running.specs.Reporting.{Counts, ReportsWritten, ReportsEnd};
 
@@ -71,8 +70,8 @@ pub fn report_end(text: &mut [u8], errors: &mut [u32], d: Done) -> Reported
     let Err(failure) = what else {
         return report(text, errors, state.at, state.errs);
     };
-    if let Failure::Stop(outcome) = failure {
-        return refuse(text, errors, outcome.code());
+    if let Failure::Stop(code) = failure {
+        return refuse(text, errors, code);
     }
     let at = put_null(text, 0);
     report(text, errors, at, state.errs)

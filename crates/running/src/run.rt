@@ -75,7 +75,7 @@ fn execute_operation(tables: &Tables, choices: &[u32], text: &mut [u8], errors: 
     let own = match plan_operation(tables, &mut plans, tables.root) {
         Ok(own) => own,
         Err(outcome) => {
-            return stopped(START, outcome);
+            return stopped(START, outcome.code());
         }
     };
     execute_selection_set(

@@ -1,2 +1,3 @@
 pub mod Amounts
 pub mod Parts
+pub mod Digits

@@ -1,5 +1,5 @@
 -- The tables' numbers, in the order in which they are lent, and what there is room for.
-use Rattle.std.specs.Prelude.{ℕ}
+use Rattle.std.specs.Prelude.{ℕ, ◌<◌}
 use Rattle.table_file.specs.declared.layout.Table.{Table}
 use Rattle.table_file.specs.declared.layout.Table.TheVariants as table
 use Rattle.table_file.specs.Sizes.{region}
@@ -21,6 +21,10 @@ number_of table.Literals = 12
 number_of table.Variables = 13
 number_of table.Answers = 14
 number_of table.Root = 15
+
+-- a table of words: any but the pool, whose number is 0
+abbrev pub HasWords : Table → Type 0
+HasWords t = 0 < number_of t
 
 -- how many bytes the pool takes, and how many words any other table
 abbrev pub room_of : Table → ℕ

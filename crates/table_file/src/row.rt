@@ -1,5 +1,6 @@
 // A line of rows: its tokens, and how often its words stand.
 ghost use Rattle.std.specs.Prelude.{◌≤◌, ◌<◌, length};
+ghost use Rattle.table_file.specs.Numbers.{HasWords};
 ghost use Rattle.table_file.specs.Places.{Reaches};
 
 use crate::fault::{Fault, Misread};
@@ -92,7 +93,8 @@ fn words_line(
     times: u32,
     store: &mut Store,
 ) -> Result<usize, Misread>
-    requires { from ≤ length text.now }
+    requires words { HasWords table }
+    requires place { from ≤ length text.now }
     ensures { Reaches text.now from result }
 {
     let start = store.size(table);

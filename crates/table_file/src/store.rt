@@ -1,6 +1,6 @@
 // What is held so far while a text is read.
 ghost use Rattle.std.specs.Prelude.{◌≡◌, ◌≤◌, ◌<◌, ◌+◌, length, get_or, IfOk};
-ghost use Rattle.table_file.specs.Numbers.{number_of, room_of};
+ghost use Rattle.table_file.specs.Numbers.{number_of, room_of, HasWords};
 ghost use Rattle.table_file.specs.Sizes.{Within};
 
 use crate::fault::Fault;
@@ -110,7 +110,9 @@ impl<'a> Store<'a> {
     }
 
     // Puts a word at a table's end, where there is room. The pool has no words, and none is put there.
-    pub(crate) fn append(&mut self, table: Table, word: u32) -> Result<(), Fault> {
+    pub(crate) fn append(&mut self, table: Table, word: u32) -> Result<(), Fault>
+        requires { HasWords table }
+    {
         let size = self.filled.size(table);
         if size >= REGION {
             return Err(Fault::TableFull);

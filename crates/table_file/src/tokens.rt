@@ -1,5 +1,6 @@
 // One token of a row, and the words it gives.
 ghost use Rattle.std.specs.Prelude.{◌≤◌, ◌<◌, length, IfOk};
+ghost use Rattle.table_file.specs.Numbers.{HasWords};
 
 use crate::fault::Fault;
 use crate::keywords::keyword;
@@ -54,7 +55,9 @@ fn token_value(table: Table, token: &[u8], store: &Store) -> Result<Value, Fault
 }
 
 // Puts a token's one word or two at the table's end.
-fn append_value(store: &mut Store, table: Table, value: Value) -> Result<(), Fault> {
+fn append_value(store: &mut Store, table: Table, value: Value) -> Result<(), Fault>
+    requires { HasWords table }
+{
     match value {
         Value::One(word) => store.append(table, word),
         Value::Two(first, second) => {

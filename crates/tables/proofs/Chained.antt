@@ -1,5 +1,5 @@
 -- Tests one behind the other. Assumes nothing.
-use mathlib.Core.Path.{◌≡◌, refl}
+use mathlib.Core.Path.{◌≡◌, refl, sym, ◌∙◌}
 use mathlib.Core.Bool.{Bool, true, false, not, true≢false, false≢true}
 use mathlib.Core.List.{List, [], ◌∷◌}
 use Prim.Native.Nat.{ℕ, zero, suc}
@@ -24,3 +24,11 @@ conj_at (b ∷ []) zero e = e
 conj_at (b ∷ []) (suc k) e = refl
 conj_at (b ∷ c ∷ bs) zero e = and_left b (conj (c ∷ bs)) e
 conj_at (b ∷ c ∷ bs) (suc k) e = conj_at (c ∷ bs) k (and_right b (conj (c ∷ bs)) e)
+
+-- one that fails ends them
+pub conj_broken : (bs : List Bool) (k : ℕ) (r : Bool) → r ≡ get_or bs k true → not r ≡ true → false ≡ conj bs
+conj_broken bs k r e n = go (conj bs) refl
+  where
+    go : (b : Bool) → conj bs ≡ b → false ≡ b
+    go true h = sym (turned_false r n) ∙ (e ∙ conj_at bs k h)
+    go false h = refl

@@ -14,7 +14,7 @@ use Rattle.rows.specs.Layout.{field_width, argument_width, literal_width}
 use Rattle.rows.specs.Limits.{most_literals}
 use Rattle.rows.specs.Rows.{all, rows_of}
 use Rattle.rows.specs.Schema.{field_at, argument_at}
-use Rattle.rows.specs.Json.{literal_at}
+use Rattle.rows.specs.Json.{literal_of, literal_at}
 use Rattle.rules.specs.Rows.{row_or_none}
 use Rattle.tables.specs.Defaults.{each_of, closed_but, closed_to, closed, default_closed, field_default, argument_default, defaults_closed}
 use Rattle.tables.specs.Marking.{run, in_run, closed_in, Marked, parts_later, Nested, Defaulted, default_unmarked, row_unmarked}
@@ -50,6 +50,14 @@ module _ (runs : List ℕ) where
   either : (b : Bool) (x y : Literal) → closed_in runs x ≡ true → closed_in runs y ≡ true → closed_in runs (cond b x y) ≡ true
   either true x y e f = e
   either false x y e f = f
+
+  -- a literal of another kind is closed, whatever the runs are
+  pub no_parts : (kind a b : ℕ) → (kind ≡ 7 → ⊥) → (kind ≡ 8 → ⊥) → (kind ≡ 10 → ⊥) → true ≡ closed_in runs (literal_of kind a b)
+  no_parts kind a b l o v =
+      rw (ne_eqb kind 7 l, ne_eqb kind 8 o, ne_eqb kind 10 v)
+      (sym
+      (either (eqb kind 0) _ _ refl (either (eqb kind 1) _ _ refl (either (eqb kind 2) _ _ refl (either (eqb kind 3) _ _ refl
+      (either (eqb kind 4) _ _ refl (either (eqb kind 5) _ _ refl (either (eqb kind 6) _ _ refl (either (eqb kind 9) _ _ refl refl)))))))))
 
 module _ (literals : List ℕ) (nested : Nested literals) where
   abbrev count : ℕ

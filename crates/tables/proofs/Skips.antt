@@ -86,6 +86,34 @@ module _ (selections : List ℕ) where
         larger i j l m (no x) (yes y) = k.larger i j l (rw (other i (λ e. omega arith)) at m)
         larger i j l m (no x) (no y) = known j (omega arith) (omega (arith, here i x y))
 
+    -- two ways one behind the other are such a way
+    pub skips_double : (row : ℕ) → (get_or skips row 0 ≡ 0 → ⊥) → (get_or skips (get_or skips row 0) 0 ≡ 0 → ⊥)
+        → Skips selections s (set skips row (get_or skips (get_or skips row 0) 0))
+    skips_double row n m =
+        let next = get_or skips row 0 in
+        skips_set row (get_or skips next 0) (omega (arith, k.ahead row (omega arith), k.ahead next (omega arith))) (k.low next)
+        (λ j l h. known j l h (dec_le (suc j) next))
+      where
+        known : (j : ℕ) → row ≤ j → j < get_or skips (get_or skips row 0) 0 → Dec (suc j ≤ get_or skips row 0) → child_larger selections s j ≡ true
+        known j l h (yes x) = k.larger row j l x
+        known j l h (no x) = k.larger (get_or skips row 0) j (omega arith) h
+
+    -- one way more is known, too
+    pub larger_on : (from row : ℕ) → LargerUpTo selections s from row → (get_or skips row 0 ≡ 0 → ⊥) → LargerUpTo selections s from (get_or skips row 0)
+    larger_on from row u n = record {
+      low = omega (arith, u.low, k.ahead row (omega arith));
+      high = k.low row;
+      larger = λ j l h. known j l h (dec_le (suc j) row);
+    }
+      where
+        known : (j : ℕ) → from ≤ j → j < get_or skips row 0 → Dec (suc j ≤ row) → child_larger selections s j ≡ true
+        known j l h (yes x) = u.larger j l x
+        known j l h (no x) = k.larger row j (omega arith) h
+
+  -- of no row
+  pub larger_none : (s from : ℕ) → from ≤ most_selections → LargerUpTo selections s from from
+  larger_none s from h = record { low = omega arith; high = h; larger = λ j l m. absurd (omega arith) }
+
   -- one more, and what comes after it
   pub larger_more : (s from row to : ℕ) → LargerUpTo selections s from row → child_larger selections s row ≡ true
       → LargerUpTo selections s (row + 1) to → LargerUpTo selections s from to

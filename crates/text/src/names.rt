@@ -2,11 +2,13 @@
 ghost use Rattle.std.specs.Prelude.{◌≡◌};
 ghost use Rattle.text.specs.Names.{NameStart, NameContinue, is_name};
 
+// Small letters have a test of their own, before the others: in one `matches!` the compiler tests from the capitals on, and most
+// letters of names are small.
 #[tactic(auto, using(std::proofs::lemmas::Bool::Decides::nat_tests), unfolding(crate::specs::Names::NameStart))]
 fn is_name_start(c: u8) -> bool
     ensures { result ≡ NameStart c }
 {
-    matches!(c, b'A'..=b'Z' | b'a'..=b'z' | b'_')
+    matches!(c, b'a'..=b'z') || matches!(c, b'A'..=b'Z' | b'_')
 }
 
 #[tactic(auto, using(std::proofs::lemmas::Bool::Decides::nat_tests), unfolding(crate::specs::Names::NameStart, crate::specs::Names::NameContinue))]

@@ -33,6 +33,20 @@ module _ {m : M Json} {before after : List ℕ} {at : ℕ} {r : Put} (q : Puts m
       go (Ok j) is put = let w = put.is in let s : put.end ≡ end = cc in (j, is, rw s at put.writes)
       go (Err o) is put = let w = put.is in absurd (let z : ◌≡◌ {A = ℕ} 0 1 = cc in omega arith)
 
+  -- it stopped: the run stops at that outcome's code, and the buffer is as long as it was
+  pub came_too_far : {o : Outcome} → r ≡ Err o → ((c : Choices) → m c ≡ stop (code_of o) []) × (length after ≡ length before)
+  unfolding ended halt
+  came_too_far {o} e = go q.value q.is q.put
+    where
+      go : (v : Result Json Outcome) → ((c : Choices) → m c ≡ ended v c) → Ends v before at r after
+          → ((c : Choices) → m c ≡ stop (code_of o) []) × (length after ≡ length before)
+      go (Ok j) is put = let w = put.is in absurd (let z : ◌≡◌ {A = ℕ} 0 1 = cc in omega arith)
+      go (Err p) is put =
+          let w = put.is in
+          let s : p ≡ o = cc in
+          let here : (c : Choices) → m c ≡ stop (code_of p) [] = is in
+          (rw s at here, put.long)
+
   -- what stops where this one does ends as it did
   pub stops_too : {m' : M Json} {before' : List ℕ} {at' : ℕ} {o : Outcome} → r ≡ Err o → length before ≡ length before'
       → ((s : ℕ) → ((c : Choices) → m c ≡ stop s []) → (c : Choices) → m' c ≡ stop s []) → Puts m' before' at' (Err o) after

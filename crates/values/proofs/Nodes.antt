@@ -2,7 +2,7 @@
 use mathlib.Core.Path.{◌≡◌, refl}
 use mathlib.Core.Bool.{Bool, true, false}
 use mathlib.Core.List.{List, [], ◌∷◌}
-use Rattle.std.specs.Prelude.{Some}
+use Rattle.std.specs.Prelude.{Some, None}
 use Prim.Native.Nat.{ℕ, ◌+◌, ◌*◌}
 use native.Mathlib.Omega.{arith}
 use types.Run.{miss}
@@ -76,6 +76,23 @@ module _ (pool : List ℕ) {text text' : List ℕ} {at end : ℕ} (n : Node) whe
 pub ruleset plain = (puts_false, puts_true, puts_natural, puts_negative, puts_float, puts_string, puts_null, shut)
 
 -- ---- containers
+
+-- the numbers of the variants that are no containers
+abbrev plains : List ℕ
+plains = 0 ∷ 1 ∷ 2 ∷ 3 ∷ 4 ∷ 5 ∷ 6 ∷ 9 ∷ []
+
+-- and these have no parts
+pub shape_plain : (n : Node) → Among plains (tag_of the_type n) → None ≡ shape_of n
+shape_plain node.Null o = refl
+shape_plain node.False o = refl
+shape_plain node.True o = refl
+shape_plain (node.Natural low high) o = refl
+shape_plain (node.Negative low high) o = refl
+shape_plain (node.Float text) o = refl
+shape_plain (node.String text) o = refl
+shape_plain (node.Array rows) o = absurd (miss plains 7 tt (opened o))
+shape_plain (node.Object rows) o = absurd (miss plains 8 tt (opened o))
+shape_plain node.Unknown o = refl
 
 -- a container is an array or an object
 unfoldable pub container_node : (keyed : Bool) → Range → Node

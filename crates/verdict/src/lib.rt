@@ -6,6 +6,7 @@ pub mod arguments;
 pub mod entries;
 pub mod file;
 pub mod lines;
+pub mod lists;
 pub mod runs;
 pub mod say;
 pub mod words;

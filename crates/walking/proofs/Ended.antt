@@ -6,8 +6,6 @@ use Prim.Native.Nat.{ℕ}
 use lib.ListN.{length, drop}
 use Rattle.writing.specs.Wrote.{Wrote}
 use Rattle.writing.proofs.WroteLaws.{stay, back}
-use Rattle.codes.specs.Outcome.{code_of}
-use Rattle.codes.specs.declared.outcome.Outcome.{Outcome}
 use Rattle.graphql.specs.Run.{Reach, here, past_list, ErrorRecord, err, Choices, Res, stop, failed, done, M}
 use Rattle.graphql.specs.Run.{after, pure, halt, fail, or_else, lowered, onward}
 use Rattle.graphql.specs.Data.{Data, Val, val}
@@ -55,14 +53,14 @@ module _ {A : Type 0} {U : View A} {cs text errors : List ℕ} {s : State} where
   fails_gives reach f = fails_back reach f (stay text s.at)
 
   -- `stopped` is the definition's `halt`, whatever was done to the text.
-  pub stopped_long : {text' : List ℕ} (o : Outcome) → length text' ≡ length text
-      → Gives U cs text errors s (halt (code_of o) (drop s.choice cs)) (record { what = Err (Stop o); state = s }) text' errors
+  pub stopped_long : {text' : List ℕ} (code : ℕ) → length text' ≡ length text
+      → Gives U cs text errors s (halt code (drop s.choice cs)) (record { what = Err (Stop code); state = s }) text' errors
   unfolding halt
-  stopped_long o l = record { what = record { outcome = o; is = refl; numbered = refl }; wrote = l; noted = rw words_none (stay errors s.errs); chosen = refl }
+  stopped_long code l = record { what = refl; wrote = l; noted = rw words_none (stay errors s.errs); chosen = refl }
 
-  pub stopped_gives : (o : Outcome)
-      → Gives U cs text errors s (halt (code_of o) (drop s.choice cs)) (record { what = Err (Stop o); state = s }) text errors
-  stopped_gives o = stopped_long o refl
+  pub stopped_gives : (code : ℕ)
+      → Gives U cs text errors s (halt code (drop s.choice cs)) (record { what = Err (Stop code); state = s }) text errors
+  stopped_gives code = stopped_long code refl
 
   -- A value that is written: the definition's `pure`.
   pub placed_gives : {text' : List ℕ} {at : ℕ} (v : A) → Wrote text text' s.at at (U.show v)
@@ -87,8 +85,7 @@ module _ {A : Type 0} {U : View A} {cs text errors : List ℕ} {s : State} where
     where
       go : {text' errors' : List ℕ} (x : Res A) {d : Done} → Gives U cs text errors s x d text' errors'
           → Gives U cs text errors s (lowered x) (passed_list d) text' errors'
-      go (stop n w) g =
-          record { what = record { outcome = g.what.outcome; is = ap lower_what g.what.is; numbered = g.what.numbered }; wrote = g.wrote; noted = g.noted; chosen = refl }
+      go (stop n w) g = record { what = ap lower_what g.what; wrote = g.wrote; noted = g.noted; chosen = refl }
       go (failed here w c) g = record { what = ap lower_what g.what; wrote = g.wrote; noted = g.noted; chosen = g.chosen }
       go (failed past_list w c) g = record { what = ap lower_what g.what; wrote = g.wrote; noted = g.noted; chosen = g.chosen }
       go (done a w c) g = record { what = ap lower_what g.what; wrote = g.wrote; noted = g.noted; chosen = g.chosen }

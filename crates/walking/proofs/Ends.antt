@@ -17,7 +17,7 @@ pub data Fall {A : Type 0} : Res A → Type 0 where
 module _ {A : Type 0} (U : View A) where
   -- Ok: it is done, with a value. For what comes after a call that came to something.
   pub placed_of : (x : Res A) {a : Completed} {k : Kind} → a ≡ Ok k → AnswerOf U x a → (v : A) × (w : Log) × (c : Choices) × (x ≡ done v w c)
-  placed_of (stop s w) e h = let i = h.is in absurd (let z : ◌≡◌ {A = ℕ} 0 1 = cc in omega arith)
+  placed_of (stop s w) e h = absurd (let z : ◌≡◌ {A = ℕ} 0 1 = cc in omega arith)
   placed_of (failed r w c) e h = absurd (let z : ◌≡◌ {A = ℕ} 0 1 = cc in omega arith)
   placed_of (done v w c) e h = (v, w, c, refl)
 
@@ -29,7 +29,7 @@ module _ {A : Type 0} (U : View A) where
 
   -- It failed, as far as to the place around it.
   pub here_of : (x : Res A) {a : Completed} → a ≡ Err Here → AnswerOf U x a → (w : Log) × (c : Choices) × (x ≡ failed here w c)
-  here_of (stop s w) e h = let i = h.is in absurd (let z : ◌≡◌ {A = ℕ} 0 1 = cc in omega arith)
+  here_of (stop s w) e h = absurd (let z : ◌≡◌ {A = ℕ} 0 1 = cc in omega arith)
   here_of (failed here w c) e h = (w, c, refl)
   here_of (failed past_list w c) e h = absurd (let z : ◌≡◌ {A = ℕ} 0 1 = cc in omega arith)
   here_of (done v w c) e h = absurd (let z : ◌≡◌ {A = ℕ} 0 1 = cc in omega arith)

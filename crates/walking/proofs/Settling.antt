@@ -81,7 +81,7 @@ past_placed d e = same_what d (rw e)
 other : (f : Failure) → Among (0 ∷ 2 ∷ []) (tag_of failures f) → f ≡ lower f
 other Here k = refl
 other PastList k = absurd (⊎_elim (λ h. omega arith) (λ h. omega arith) (opened k))
-other (Stop outcome) k = refl
+other (Stop code) k = refl
 
 pub past_other : (d : Done) {f : Failure} → d.what ≡ Err f → Among (0 ∷ 2 ∷ []) (tag_of failures f) → d ≡ passed_list d
 past_other d {f} e k = same_what d (rw e (ap Err (other f k)))
@@ -112,7 +112,7 @@ module _ {start : ℕ} {d : Done} where
       go : {cs text text1 text2 errors errors' label : List ℕ} (s : State) {next : ℕ} (x : Res Val) → Wrote text text1 start next label
           → Gives as_value cs text1 errors (moved_to s next) x d text2 errors' → {a : Completed} → a ≡ Ok k → AnswerOf as_value x a
           → Gives (as_entry label) cs text errors (moved_to s start) x d text2 errors'
-      go s (stop n w) p g a h = let i = h.is in absurd (let z : ◌≡◌ {A = ℕ} 0 1 = cc in omega arith)
+      go s (stop n w) p g a h = absurd (let z : ◌≡◌ {A = ℕ} 0 1 = cc in omega arith)
       go s (failed r w c) p g a h = absurd (let z : ◌≡◌ {A = ℕ} 0 1 = cc in omega arith)
       go s (done absent w c) p g a h = absurd (kept_not (cc))
         where
@@ -130,7 +130,7 @@ module _ {start : ℕ} {d : Done} where
       go : {cs text text1 text2 errors errors' label : List ℕ} (s : State) {next : ℕ} (x : Res Val) → Wrote text text1 start next label
           → Gives as_value cs text1 errors (moved_to s next) x d text2 errors' → {a : Completed} → a ≡ Ok kind.LeftOut → AnswerOf as_value x a
           → Gives (as_entry label) cs text errors (moved_to s start) x (record { what = d.what; state = moved_to d.state start }) text2 errors'
-      go s (stop n w) p g a h = let i = h.is in absurd (let z : ◌≡◌ {A = ℕ} 0 1 = cc in omega arith)
+      go s (stop n w) p g a h = absurd (let z : ◌≡◌ {A = ℕ} 0 1 = cc in omega arith)
       go s (failed r w c) p g a h = absurd (let z : ◌≡◌ {A = ℕ} 0 1 = cc in omega arith)
       go s (done absent w c) p g a h = record { what = g.what; wrote = back («then» p g.wrote); noted = g.noted; chosen = g.chosen }
       go s (done (val nulled) w c) p g a h = absurd (let z : ◌≡◌ {A = ℕ} 0 1 = cc in omega arith)

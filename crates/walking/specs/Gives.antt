@@ -2,8 +2,6 @@
 -- records noted, the choices left; and nothing else.
 use Rattle.std.specs.Prelude.{◌≡◌, List, [], ◌++◌, ℕ, length, drop}
 use Rattle.writing.specs.Wrote.{Wrote}
-use Rattle.codes.specs.Outcome.{code_of}
-use Rattle.codes.specs.declared.outcome.Outcome.{Outcome}
 use Rattle.graphql.specs.Run.{Reach, here, past_list, Log, Choices, Res, stop, failed, done}
 use Rattle.graphql.specs.Data.{Data, nulled, leaf, list, object, Val, absent, val, print_data}
 use Rattle.graphql.specs.Report.{records_of, words_of}
@@ -58,15 +56,9 @@ reach_of past_list = PastList
 abbrev pub moved_to : State → ℕ → State
 moved_to s at = record { at = at; errs = s.errs; choice = s.choice; top = s.top }
 
--- the run ended, with the outcome that has this number
-pub record StopsWith (number : ℕ) (w : Completed) : Type 0 where
-  pub outcome : Outcome
-  pub is : w ≡ Err (Stop outcome)
-  pub numbered : code_of outcome ≡ number
-
 module _ {A : Type 0} where
   abbrev pub AnswerOf : View A → Res A → Completed → Type 0
-  AnswerOf U (stop code log) w = StopsWith code w
+  AnswerOf U (stop code log) w = w ≡ Err (Stop code)
   AnswerOf U (failed r log c) w = w ≡ Err (reach_of r)
   AnswerOf U (done a log c) w = w ≡ Ok (U.says a)
 

@@ -37,7 +37,7 @@ pub record Nullifies (non_null : Bool) (d : Done) (text : List ℕ) (r : Done) (
 abbrev pub lower : Failure → Failure
 lower Here = Here
 lower PastList = Here
-lower (Stop outcome) = Stop outcome
+lower (Stop code) = Stop code
 
 abbrev pub lower_what : Completed → Completed
 lower_what (Ok kind) = Ok kind

@@ -8,7 +8,6 @@ use crate::path::Path;
 use crate::record::put_record;
 use crate::state::{Done, Failure, Kind, State};
 use codes::errors::FieldError;
-use codes::outcome::Outcome;
 use tokens::json::put_null;
 
 // The same state with the text at another position.
@@ -33,12 +32,12 @@ pub fn placed(s: State, at: usize, kind: Kind) -> Done
     }
 }
 
-// The run ends here.
-pub fn stopped(s: State, outcome: Outcome) -> Done
-    ensures { result ≡ record { what = Err (Failure.Stop outcome); state = s } }
+// The run ends here, with a code.
+pub fn stopped(s: State, code: u32) -> Done
+    ensures { result ≡ record { what = Err (Failure.Stop code); state = s } }
 {
     Done {
-        what: Err(Failure::Stop(outcome)),
+        what: Err(Failure::Stop(code)),
         state: s,
     }
 }

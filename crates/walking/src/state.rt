@@ -1,5 +1,4 @@
 // How a run stands, and how a part of it ends.
-use codes::outcome::Outcome;
 
 // Where the next byte of the text goes, the next word of the errors and the next choice, and how many rows of plans stand. A position past its
 // buffer's end says only that it is past it.
@@ -21,12 +20,12 @@ pub enum Kind {
     Object,
 }
 
-// How far a failure goes up: to the place around it, past the list around it, or to the end of the run.
+// How far a failure goes up: to the place around it, past the list around it, or to the end of the run, with document 01's code.
 #[derive(Clone, Copy)]
 pub enum Failure {
     Here,
     PastList,
-    Stop(Outcome),
+    Stop(u32),
 }
 
 // A completion: what stands at the completed place, or a failure going up; and how the run stands then.

@@ -5,7 +5,7 @@ use mathlib.Core.List.{List, [], ◌∷◌, ◌++◌, append_assoc, append-nil}
 use Prim.Native.Nat.{ℕ, zero, suc, ◌+◌, ◌-◌, ◌≤◌, ◌<◌, min}
 use native.Mathlib.Omega.{arith}
 use native.Mathlib.Nat.{zero-sub, suc-sub-suc, suc-add, zero-add, sub-zero}
-use lib.ListN.{length, take, drop, set, length-append, length-take, length-drop, take-append-drop}
+use lib.ListN.{length, take, drop, set, length-set, length-append, length-take, length-drop, take-append-drop}
 use lib.Seq.{drop-drop, set_out, length-take-le, take_all, take-add, take_at, take-nil, drop-nil}
 use Rattle.writing.specs.Wrote.{Writes, written, saturated}
 
@@ -124,6 +124,10 @@ pub one : {A : Type 0} (t : List A) (a : ℕ) (b : A) → a < length t → Write
 unfolding saturated
 one t a b h = writes (written_one t a b) (omega arith)
 
+-- The same, with the position after it written in another way.
+pub one_to : {A : Type 0} (t : List A) (a a' : ℕ) (b : A) → a < length t → a' ≡ a + 1 → Writes t (set t a b) a a' (b ∷ [])
+one_to t a a' b h e = rw e (one t a b h)
+
 -- One element, where there is no room: the position says so.
 pub past : {A : Type 0} (t : List A) (a : ℕ) (b : A) → length t ≤ a → Writes t t a (length t + 1) (b ∷ [])
 unfolding saturated
@@ -149,6 +153,17 @@ pub «then» : {A : Type 0} {t t' t'' : List A} {a a' a'' : ℕ} {x y : List A} 
 -- The same where the first step wrote one element: a list that is written element by element is put together by this.
 pub cons : {A : Type 0} {t t' t'' : List A} {a a' a'' : ℕ} {b : A} {y : List A} → Writes t t' a a' (b ∷ []) → Writes t' t'' a' a'' y → Writes t t'' a a'' (b ∷ y)
 cons w v = «then» w v
+
+-- Four elements, where there is room for all of them.
+pub four : {A : Type 0} (t : List A) (a : ℕ) (w x y z : A) → a < length t → 4 ≤ length t - a
+    → Writes t (set (set (set (set t a w) (a + 1) x) (a + 2) y) (a + 3) z) a (a + 4) (w ∷ x ∷ y ∷ z ∷ [])
+four t a w x y z h k =
+    let t1 = set t a w in
+    let t2 = set t1 (a + 1) x in
+    let t3 = set t2 (a + 2) y in
+    cons (one t a w h)
+    (cons (one_to t1 (a + 1) (a + 2) x (simp length-set (omega arith)) (omega arith))
+    (cons (one_to t2 (a + 2) (a + 3) y (simp length-set (omega arith)) (omega arith)) (one_to t3 (a + 3) (a + 4) z (simp length-set (omega arith)) (omega arith))))
 
 -- ---- laid over again
 

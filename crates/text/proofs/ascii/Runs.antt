@@ -1,13 +1,13 @@
 -- US-ASCII of a text that grows at its end: by an octet, whose highest bit an `|` keeps, or by a block.
 -- Assumes nothing.
 use mathlib.Core.Path.{◌≡◌, refl, sym, ap, ◌∙◌}
-use mathlib.Core.Bool.{Bool, true, false, ◌&&◌, and_assoc, and-true}
+use mathlib.Core.Bool.{Bool, true, false, not, ◌&&◌, and_assoc, and-true}
 use mathlib.Core.List.{List, [], ◌∷◌, ◌++◌}
 use Prim.Native.Nat.{ℕ, ◌+◌, ◌-◌, ◌≤◌, ◌<◌}
 use native.Mathlib.Nat.{add-mul}
 use native.Mathlib.Numerals.{add-one}
 use native.Mathlib.Omega.{arith}
-use borrow.Author.Tests.{lt-ltb, le-ltb, ltb-true, ltb-false}
+use borrow.Author.Tests.{lt-ltb, le-ltb, ltb-true, ltb-false, not-true}
 use lib.Dec.{ltb}
 use lib.Bits.{bit_or, or_lt, or_add_and, and_le_l, and_le_r}
 use lib.ListN.{length, get_or, take, drop, length-append, length-drop}
@@ -62,6 +62,16 @@ module _ (s : List ℕ) (n from at : ℕ) (passed : AsciiBlocks s n from at) whe
         inside = omega arith;
         ascii = ascii_behind (at + n) (omega arith) (sym e ∙ t);
       }
+
+  -- the next block is another, so they end here
+  pub blocks_other : (r : Bool) → r ≡ is_ascii (take (at + n - at) (drop at s)) → not r ≡ true → PastAscii s n from at
+  blocks_other r e t =
+      let size : at + n - at ≡ n = omega arith in
+      record { passed = passed; stopped = λ h. ap (λ (k : ℕ). is_ascii (take k (drop at s))) (sym size) ∙ sym e ∙ not-true r t }
+
+  -- or less than one is left
+  pub blocks_over : length s - at < n → PastAscii s n from at
+  blocks_over h = record { passed = passed; stopped = λ k. let z : ⊥ = omega arith in absurd z }
 
   -- blocks of another size behind them
   blocks_behind : (m next : ℕ) → AsciiBlocks s m at next → AsciiBlocks s 1 from next

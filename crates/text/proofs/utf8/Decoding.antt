@@ -93,6 +93,14 @@ number_begin a n t (four h k) z l = number_four a t (omega arith)
 number_begin a n t (single h) z l = absurd (z refl)
 number_begin a n t (beyond h) z l = absurd (z refl)
 
+-- a sequence has less than seven octets
+pub leads_small : (a n : ℕ) → Leads a n → n < 7
+leads_small a n (two h k) = omega arith
+leads_small a n (three h k) = omega arith
+leads_small a n (four h k) = omega arith
+leads_small a n (single h) = omega arith
+leads_small a n (beyond h) = omega arith
+
 -- too few octets follow
 completes_short : (n k p : ℕ) (t : List ℕ) → length t < k → completes n k p t ≡ false
 unfolding completes

@@ -4,19 +4,20 @@
 use mathlib.Core.Path.{◌≡◌, refl, sym, ap, ◌∙◌, subst}
 use mathlib.Core.Bool.{Bool, true, false, cond, not}
 use mathlib.Core.Logic.{⊎_elim}
-use Prim.Native.Nat.{ℕ, ◌+◌, ◌-◌, ◌*◌, ◌/◌, ◌^◌, ◌≤◌, ◌<◌}
+use Prim.Native.Nat.{ℕ, ◌+◌, ◌-◌, ◌*◌, ◌/◌, ◌%◌, ◌^◌, ◌≤◌, ◌<◌}
+use native.Mathlib.Nat.{mod-eq_of_lt}
 use native.Mathlib.Omega.{arith}
-use borrow.Author.Tests.{le-leb, lt-leb, ne_eqb, not-true}
+use borrow.Author.Tests.{le-leb, lt-leb, eq-eqb, ne_eqb, not-true}
 use lib.Dec.{leb, eqb}
-use lib.Bits.{bit_and, and_mask}
+use lib.Bits.{bit_and, bit_or, and_mask, and_high, or_shifted}
 use lib.Pow.{ones_split, high, ones_lt}
 use lib.Count.{count_leading_zeros}
 use mir.Syntax.{w8}
 use Rattle.std.specs.Int.{leading_ones}
 use Rattle.std.proofs.lemmas.Bool.{agree_below_at}
 use Rattle.text.specs.Grammar.{◌to◌, ◌∈◌}
-use Rattle.text.specs.Utf8.{Leads, two, three, four, single, beyond, lead_bits, least_for, allowed}
-use Rattle.text.proofs.Reading.{in_range, below_range, above_range, range_holds, range_fails}
+use Rattle.text.specs.Utf8.{UTF8-tail, Leads, two, three, four, single, beyond, lead_bits, least_for, allowed}
+use Rattle.text.proofs.Reading.{le_or_lt, in_range, below_range, above_range, range_holds, range_fails}
 
 -- ---- the ones that an octet begins with
 
@@ -67,6 +68,33 @@ lead_masked n a h =
     let wide : 127 ≡ (2 ^ (7 - n) - 1) * 2 ^ n + (2 ^ n - 1) = subst (λ (k : ℕ). 2 ^ k - 1 ≡ (2 ^ (7 - n) - 1) * 2 ^ n + (2 ^ n - 1)) sum (ones_split (7 - n) n) in
     let mask : 127 / 2 ^ n ≡ 2 ^ (7 - n) - 1 = ap (λ (k : ℕ). k / 2 ^ n) wide ∙ high (2 ^ (7 - n) - 1) n (ones_lt n) in
     ap (bit_and a) mask ∙ and_mask a (7 - n)
+
+-- an octet above the continuation octets is in the last quarter
+third_quarter : (b : ℕ) → 0xBF < b → b < 256 → b / 64 % 4 ≡ 2 → ⊥
+third_quarter b q h e =
+    let last : b / 64 ≡ 3 = omega arith in
+    let kept : b / 64 % 4 ≡ 3 = ap (λ (k : ℕ). k % 4) last in
+    omega arith
+
+-- the two highest bits say whether an octet continues a sequence
+pub tail_test : (b : ℕ) → b < 256 → eqb (bit_and b 192) 128 ≡ (b ∈ UTF8-tail)
+tail_test b h =
+    let masked : bit_and b 192 ≡ b / 64 % 4 * 64 = and_high b 2 6 in
+    ⊎_elim
+    (λ (p : 0x80 ≤ b).
+    ⊎_elim
+    (λ (q : b ≤ 0xBF). eq-eqb (bit_and b 192) 128 (masked ∙ omega arith) ∙ sym (in_range 0x80 0xBF b p q))
+    (λ (q : 0xBF < b). ne_eqb (bit_and b 192) 128 (λ e. third_quarter b q h (omega arith)) ∙ sym (above_range 0x80 0xBF b q))
+    (le_or_lt b 0xBF))
+    (λ (p : b < 0x80). ne_eqb (bit_and b 192) 128 (λ e. omega arith) ∙ sym (below_range 0x80 0xBF b p))
+    (le_or_lt 0x80 b)
+
+-- six more bits behind a number
+pub tail_appended : (p b w : ℕ) → p < 2 ^ 26 → w ≡ bit_and b 63 → bit_or (p * 64 % 4294967296) w ≡ p * 64 + b % 64
+tail_appended p b w h e =
+    let bits : w ≡ b % 64 = e ∙ and_mask b 6 in
+    let kept : p * 64 % 4294967296 ≡ p * 64 = mod-eq_of_lt (omega arith) in
+    rw (kept, bits) (or_shifted p 6 (b % 64) (omega arith))
 
 -- ---- the code points that a sequence may spell
 

@@ -9,7 +9,7 @@ use Prim.Native.Nat.{ℕ, zero, suc, ◌+◌, ◌-◌, ◌≤◌}
 use native.Mathlib.Omega.{arith}
 use borrow.Author.Tests.{ltb-true, leb-true, eq-eqb, ne_eqb, not-false}
 use lib.Dec.{ltb, leb, eqb, eqb-suc-zero}
-use lib.ListN.{get_or, take, drop}
+use lib.ListN.{length, get_or, take, drop, get_or-eq_default}
 use lib.Seq.{get_or-drop}
 use Rattle.text.specs.Grammar.{Range, ◌to◌, ◌∈◌, if_some}
 use Rattle.text.specs.Ascii.{is_ascii}
@@ -191,6 +191,16 @@ utf8_part pool valid m (suc k) = by_test (is_boundary pool m) refl
     by_test false p =
         let here : m + 0 ≡ m = omega arith in
         rw eqb-suc-zero (begun_inside (drop m pool) k (boundary_behind pool m 0 ∙ ap (is_boundary pool) here ∙ p))
+
+-- ---- the ways through `is_boundary`
+
+-- a text's end is a boundary
+pub boundary_end : (s : List ℕ) (at : ℕ) → at ≡ length s → true ≡ is_boundary s at
+boundary_end s at e = rw (get_or-eq_default s 0 {n = at} (omega arith))
+
+-- and elsewhere one stands where no continuation octet does
+pub boundary_looked : (s : List ℕ) (at : ℕ) (r : Bool) → r ≡ (get_or s at 0 ∈ UTF8-tail) → not r ≡ is_boundary s at
+boundary_looked s at r e = ap not e
 
 -- ---- the ways through `is_part_utf8`
 

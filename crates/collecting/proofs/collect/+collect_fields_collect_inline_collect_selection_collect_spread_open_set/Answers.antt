@@ -7,58 +7,58 @@ use Rattle.collecting.proofs.collect.+collect_fields_collect_inline_collect_sele
 
 ruleset walk = (walking, rules)
 
-pub collect_fields-returns-in_err-so_far : goal.collect_fields-returns-in_err-so_far
-collect_fields-returns-in_err-so_far t c =
+pub collect_fields-returns-in_err-so_far-clause-collects : goal.collect_fields-returns-in_err-so_far-clause-collects
+collect_fields-returns-in_err-so_far-clause-collects t c =
     let e : c.from_residual.result ≡ Err c.in_err-so_far.field-0.0 = search rules in
-    rw e (going_stopped _ _ _ _ _ _ _ _ _ _ _ _ c.loop-i.invariant (search walk) c.collect_selection.ensures c.in_err-so_far.was)
+    rw e (going_stopped _ _ _ _ _ _ _ _ _ _ _ _ c.loop-i.invariant (search walk) c.collect_selection.ensures.collects c.in_err-so_far.was)
 
 pub collect_fields-loop-i-preserved : goal.collect_fields-loop-i-preserved
-collect_fields-loop-i-preserved t c = going_again _ _ _ _ _ _ _ _ _ _ _ _ c.loop-i.invariant (search walk) c.collect_selection.ensures c.in_ok-so_far.was
+collect_fields-loop-i-preserved t c = going_again _ _ _ _ _ _ _ _ _ _ _ _ c.loop-i.invariant (search walk) c.collect_selection.ensures.collects c.in_ok-so_far.was
 
-pub collect_fields-returns : goal.collect_fields-returns
-collect_fields-returns t c = search walk
+pub collect_fields-returns-clause-collects : goal.collect_fields-returns-clause-collects
+collect_fields-returns-clause-collects t c = search walk
 
-pub collect_inline-returns-then-not-inline_applies : goal.collect_inline-returns-then-not-inline_applies
-collect_inline-returns-then-not-inline_applies t c = search walk
+pub collect_inline-returns-then-not-inline_applies-clause-collects : goal.collect_inline-returns-then-not-inline_applies-clause-collects
+collect_inline-returns-then-not-inline_applies-clause-collects t c = search walk
 
-pub collect_inline-returns : goal.collect_inline-returns
-collect_inline-returns t c = search walk
+pub collect_inline-returns-clause-collects : goal.collect_inline-returns-clause-collects
+collect_inline-returns-clause-collects t c = search walk
 
-pub collect_selection-returns-then-is_dropped : goal.collect_selection-returns-then-is_dropped
-collect_selection-returns-then-is_dropped t c = search walk
+pub collect_selection-returns-then-is_dropped-clause-collects : goal.collect_selection-returns-then-is_dropped-clause-collects
+collect_selection-returns-then-is_dropped-clause-collects t c = search walk
 
-pub collect_selection-returns-in-Field : goal.collect_selection-returns-in-Field
-collect_selection-returns-in-Field t c = search walk
+pub collect_selection-returns-in-Field-clause-collects : goal.collect_selection-returns-in-Field-clause-collects
+collect_selection-returns-in-Field-clause-collects t c = search walk
 
-pub collect_selection-returns-in-Spread : goal.collect_selection-returns-in-Spread
-collect_selection-returns-in-Spread t c = search walk
+pub collect_selection-returns-in-Spread-clause-collects : goal.collect_selection-returns-in-Spread-clause-collects
+collect_selection-returns-in-Spread-clause-collects t c = search walk
 
-pub collect_selection-returns-in-Inline : goal.collect_selection-returns-in-Inline
-collect_selection-returns-in-Inline t c = search walk
+pub collect_selection-returns-in-Inline-clause-collects : goal.collect_selection-returns-in-Inline-clause-collects
+collect_selection-returns-in-Inline-clause-collects t c = search walk
 
-pub collect_selection-returns-in-Unknown : goal.collect_selection-returns-in-Unknown
-collect_selection-returns-in-Unknown t c = search walk
+pub collect_selection-returns-in-Unknown-clause-collects : goal.collect_selection-returns-in-Unknown-clause-collects
+collect_selection-returns-in-Unknown-clause-collects t c = search walk
 
-pub collect_spread-returns-in_default : goal.collect_spread-returns-in_default
-collect_spread-returns-in_default t c = search walk
+pub collect_spread-returns-in_default-clause-collects : goal.collect_spread-returns-in_default-clause-collects
+collect_spread-returns-in_default-clause-collects t c = search walk
 
 pub collect_spread-is_visited-requires : goal.collect_spread-is_visited-requires
 collect_spread-is_visited-requires t c = search walk
 
-pub collect_spread-returns-then-is_visited : goal.collect_spread-returns-then-is_visited
-collect_spread-returns-then-is_visited t c = search walk
+pub collect_spread-returns-then-is_visited-clause-collects : goal.collect_spread-returns-then-is_visited-clause-collects
+collect_spread-returns-then-is_visited-clause-collects t c = search walk
 
 pub collect_spread-with_visited-requires : goal.collect_spread-with_visited-requires
 collect_spread-with_visited-requires t c = search walk
 
-pub collect_spread-returns-then-not-does_fragment_type_apply : goal.collect_spread-returns-then-not-does_fragment_type_apply
-collect_spread-returns-then-not-does_fragment_type_apply t c = search walk
+pub collect_spread-returns-then-not-does_fragment_type_apply-clause-collects : goal.collect_spread-returns-then-not-does_fragment_type_apply-clause-collects
+collect_spread-returns-then-not-does_fragment_type_apply-clause-collects t c = search walk
 
-pub collect_spread-returns : goal.collect_spread-returns
-collect_spread-returns t c = search walk
+pub collect_spread-returns-clause-collects : goal.collect_spread-returns-clause-collects
+collect_spread-returns-clause-collects t c = search walk
 
-pub open_set-returns-then-room-eq0 : goal.open_set-returns-then-room-eq0
-open_set-returns-then-room-eq0 t c = search walk
+pub open_set-returns-then-room-eq0-clause-collects : goal.open_set-returns-then-room-eq0-clause-collects
+open_set-returns-then-room-eq0-clause-collects t c = search walk
 
-pub open_set-returns : goal.open_set-returns
-open_set-returns t c = search walk
+pub open_set-returns-clause-collects : goal.open_set-returns-clause-collects
+open_set-returns-clause-collects t c = search walk

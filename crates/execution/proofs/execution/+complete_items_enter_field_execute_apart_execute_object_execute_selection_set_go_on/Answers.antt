@@ -66,34 +66,34 @@ pub execute_apart-plan_apart-requires : goal.execute_apart-plan_apart-requires
 execute_apart-plan_apart-requires t c = (apart_storable c.requires refl, apart_lookable c.requires)
 
 pub execute_apart-returns-in-Err : goal.execute_apart-returns-in-Err
-execute_apart-returns-in-Err t c = apart_stops c.requires refl c.plan_apart.ensures c.in-Err.is c.stopped.ensures
+execute_apart-returns-in-Err t c = apart_stops c.requires refl c.plan_apart.ensures.planned c.in-Err.is c.code.ensures c.stopped.ensures
 
 pub execute_apart-execute_selection_set-d-requires : goal.execute_apart-execute_selection_set-d-requires
-execute_apart-execute_selection_set-d-requires t c = (omega arith, rw c.planned_to.ensures (apart_set_ready c.requires refl c.plan_apart.ensures c.in-Ok.is))
+execute_apart-execute_selection_set-d-requires t c = (omega arith, rw c.planned_to.ensures (apart_set_ready c.requires refl c.plan_apart.ensures.planned c.in-Ok.is))
 
 pub execute_apart-returns : goal.execute_apart-returns
-execute_apart-returns t c = apart_set c.requires refl c.plan_apart.ensures c.in-Ok.is c.done_apart.ensures (rw c.planned_to.ensures at c.execute_selection_set-d.ensures)
+execute_apart-returns t c = apart_set c.requires refl c.plan_apart.ensures.planned c.in-Ok.is c.done_apart.ensures (rw c.planned_to.ensures at c.execute_selection_set-d.ensures)
 
 pub execute_object-plan_for-requires : goal.execute_object-plan_for-requires
 execute_object-plan_for-requires t c = (object_plannable c.requires, c.requires.ready.hinted)
 
 pub execute_object-execute_apart-requires : goal.execute_object-execute_apart-requires
-execute_object-execute_apart-requires t c = (omega arith, object_apart_ready c.requires _ c.plan_for.ensures (search rules) (c.in-Ok.is ∙ ap Ok c.in-None.is))
+execute_object-execute_apart-requires t c = (omega arith, object_apart_ready c.requires _ c.plan_for.ensures.planned (search rules) (c.in-Ok.is ∙ ap Ok c.in-None.is))
 
 pub execute_object-execute_selection_set-requires : goal.execute_object-execute_selection_set-requires
-execute_object-execute_selection_set-requires t c = (omega arith, rw c.planned_to.ensures (object_set_ready c.requires _ c.plan_for.ensures (search rules) (c.in-Ok.is ∙ ap Ok c.in-Some.is)))
+execute_object-execute_selection_set-requires t c = (omega arith, rw c.planned_to.ensures (object_set_ready c.requires _ c.plan_for.ensures.planned (search rules) (c.in-Ok.is ∙ ap Ok c.in-Some.is)))
 
 pub execute_object-returns-in-None : goal.execute_object-returns-in-None
-execute_object-returns-in-None t c = object_apart c.requires _ c.plan_for.ensures (search rules) (c.in-Ok.is ∙ ap Ok c.in-None.is) c.execute_apart.ensures
+execute_object-returns-in-None t c = object_apart c.requires _ c.plan_for.ensures.planned (search rules) (c.in-Ok.is ∙ ap Ok c.in-None.is) c.execute_apart.ensures
 
 pub execute_object-shape_of-plans-in-Some : goal.execute_object-shape_of-plans-in-Some
-execute_object-shape_of-plans-in-Some t c = (object_set c.requires _ c.plan_for.ensures (search rules) (c.in-Ok.is ∙ ap Ok c.in-Some.is) (rw c.planned_to.ensures at c.execute_selection_set.ensures)).left.kept.sized
+execute_object-shape_of-plans-in-Some t c = (object_set c.requires _ c.plan_for.ensures.planned (search rules) (c.in-Ok.is ∙ ap Ok c.in-Some.is) (rw c.planned_to.ensures at c.execute_selection_set.ensures)).left.kept.sized
 
 pub execute_object-returns-in-Some : goal.execute_object-returns-in-Some
-execute_object-returns-in-Some t c = object_set c.requires _ c.plan_for.ensures (search rules) (c.in-Ok.is ∙ ap Ok c.in-Some.is) (rw c.planned_to.ensures at c.execute_selection_set.ensures)
+execute_object-returns-in-Some t c = object_set c.requires _ c.plan_for.ensures.planned (search rules) (c.in-Ok.is ∙ ap Ok c.in-Some.is) (rw c.planned_to.ensures at c.execute_selection_set.ensures)
 
 pub execute_object-returns-in-Err : goal.execute_object-returns-in-Err
-execute_object-returns-in-Err t c = object_stops c.requires _ c.plan_for.ensures (search rules) c.in-Err.is c.stopped.ensures
+execute_object-returns-in-Err t c = object_stops c.requires _ c.plan_for.ensures.planned (search rules) c.in-Err.is c.code.ensures c.stopped.ensures
 
 pub execute_selection_set-group_count-groups-requires : goal.execute_selection_set-group_count-groups-requires
 execute_selection_set-group_count-groups-requires t c = set_there c.requires

@@ -3,8 +3,8 @@ use Rattle.planning.proofs.Merged.{child}
 use borrow.Author.Rules.{rules}
 use Rattle.planning.proofs.beneath.collect_child.Goals as goal
 
-pub returns-then-field-eq0 : goal.returns-then-field-eq0
-returns-then-field-eq0 c = search (child, rules)
+pub returns-then-field-eq0-clause-collects : goal.returns-then-field-eq0-clause-collects
+returns-then-field-eq0-clause-collects c = search (child, rules)
 
-pub returns : goal.returns
-returns c = search (child, rules)
+pub returns-clause-collects : goal.returns-clause-collects
+returns-clause-collects c = search (child, rules)

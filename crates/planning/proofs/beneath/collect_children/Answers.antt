@@ -8,13 +8,13 @@ use Rattle.planning.proofs.beneath.collect_children.Goals as goal
 pub loop-i-init : goal.loop-i-init
 loop-i-init c = search (merging, rules)
 
-pub returns-in_err-so_far : goal.returns-in_err-so_far
-returns-in_err-so_far c =
+pub returns-in_err-so_far-clause-gathers : goal.returns-in_err-so_far-clause-gathers
+returns-in_err-so_far-clause-gathers c =
     let e : c.from_residual.result ≡ Err c.in_err-so_far.field-0.0 = search rules in
-    rw e (merging_stopped _ _ _ _ _ _ _ _ _ _ _ _ _ c.loop-i.invariant (search rules) c.collect_owned.ensures c.in_err-so_far.was)
+    rw e (merging_stopped _ _ _ _ _ _ _ _ _ _ _ _ _ c.loop-i.invariant (search rules) c.collect_owned.ensures.collects c.in_err-so_far.was)
 
 pub loop-i-preserved : goal.loop-i-preserved
-loop-i-preserved c = merging_again _ _ _ _ _ _ _ _ _ _ _ _ _ c.loop-i.invariant (search rules) c.collect_owned.ensures c.in_ok-so_far.was
+loop-i-preserved c = merging_again _ _ _ _ _ _ _ _ _ _ _ _ _ c.loop-i.invariant (search rules) c.collect_owned.ensures.collects c.in_ok-so_far.was
 
-pub returns : goal.returns
-returns c = search (merging, rules)
+pub returns-clause-gathers : goal.returns-clause-gathers
+returns-clause-gathers c = search (merging, rules)

@@ -3,8 +3,8 @@ use Rattle.planning.proofs.Merged.{child}
 use borrow.Author.Rules.{rules}
 use Rattle.planning.proofs.beneath.collect_owned.Goals as goal
 
-pub returns-then-owner-group : goal.returns-then-owner-group
-returns-then-owner-group c = search (child, rules)
+pub returns-then-owner-group-clause-collects : goal.returns-then-owner-group-clause-collects
+returns-then-owner-group-clause-collects c = search (child, rules)
 
-pub returns : goal.returns
-returns c = search (child, rules)
+pub returns-clause-collects : goal.returns-clause-collects
+returns-clause-collects c = search (child, rules)

@@ -8,13 +8,13 @@ use Rattle.planning.proofs.plan.plan_apart.Goals as goal
 pub collect_group-requires : goal.collect_group-requires
 collect_group-requires c = (search (c.requires.0.collectable, rules), c.requires.1)
 
-pub returns-in_err-gathered : goal.returns-in_err-gathered
-returns-in_err-gathered c =
+pub returns-in_err-gathered-clause-planned : goal.returns-in_err-gathered-clause-planned
+returns-in_err-gathered-clause-planned c =
     let e : c.from_residual.result ≡ Err c.in_err-gathered.field-0.0 = search rules in
-    rw e (apart_stopped c.requires.0 c.collect_group.ensures c.in_err-gathered.was)
+    rw e (apart_stopped c.requires.0 c.collect_group.ensures.gathers c.in_err-gathered.was)
 
 pub plan_set-requires : goal.plan_set-requires
-plan_set-requires c = apart_puttable c.requires.0 c.collect_group.ensures c.in_ok-gathered.was
+plan_set-requires c = apart_puttable c.requires.0 c.collect_group.ensures.gathers c.in_ok-gathered.was
 
-pub returns : goal.returns
-returns c = apart_made c.requires.0 c.collect_group.ensures c.in_ok-gathered.was c.plan_set.ensures
+pub returns-clause-planned : goal.returns-clause-planned
+returns-clause-planned c = apart_made c.requires.0 c.collect_group.ensures.gathers c.in_ok-gathered.was c.plan_set.ensures

@@ -14,4 +14,4 @@ pub returns-in-Failed : goal.returns-in-Failed
 returns-in-Failed c = answers_failed (c.in-Err.is ∙ ap Err c.in-Failed.is) c.fail-d.ensures c.finished.ensures
 
 pub returns-in-Stop : goal.returns-in-Stop
-returns-in-Stop c = answers_stopped (c.in-Err.is ∙ ap Err c.in-Stop.is) c.stopped.ensures c.finished-in-Stop.ensures
+returns-in-Stop c = answers_stopped (c.in-Err.is ∙ ap Err c.in-Stop.is) c.code.ensures c.stopped.ensures c.finished-in-Stop.ensures
