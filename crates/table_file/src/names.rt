@@ -7,12 +7,11 @@ use crate::layout::Table;
 use crate::store::Store;
 use rows::layout::row_count;
 use rows::names::{NAME_WIDTH, name_at, name_text};
-use rows::strings::is_same;
 
 // Whether a row of the names table has this name. A name that the pool cuts short is none, whatever is left of it.
 fn is_name_of_row(name: &[u8], pool: &[u8], names: &[u32], row: u32) -> bool {
     let len = name_at(names, row).len as usize;
-    len == name.len() && is_same(name, name_text(pool, names, row))
+    len == name.len() && name == name_text(pool, names, row)
 }
 
 fn first_row(name: &[u8], pool: &[u8], names: &[u32]) -> Option<u32>
