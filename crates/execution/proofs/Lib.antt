@@ -5,3 +5,4 @@ pub mod Going
 pub mod Entering
 pub mod Beneath
 pub mod Sets
+pub mod Told

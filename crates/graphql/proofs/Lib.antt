@@ -7,7 +7,9 @@ pub mod Views
 pub mod Determined
 pub mod Stable
 pub mod Closed
+pub mod Walked
 pub mod Order
+pub mod Stops
 pub mod Meets
 pub mod Fails
 pub mod Spots

@@ -1,4 +1,5 @@
--- What a run means, in reading order; then the cases A to N and some runs more, and the statement that the order of work doesn't show.
+-- What a run means, in reading order; with which codes it stops; then the cases A to N and some runs more, and the statement that the order of work
+-- doesn't show.
 pub mod Run
 pub mod Json
 pub mod Data
@@ -9,6 +10,7 @@ pub mod Collect
 pub mod Coerce
 pub mod Request
 pub mod Complete
+pub mod Stops
 pub mod Report
 pub mod Depth
 pub mod Kit

@@ -22,7 +22,7 @@ use Rattle.walking.specs.declared.state.Failure.{Failure}
 use Rattle.walking.specs.declared.state.Failure.TheVariants.{Stop}
 use Rattle.std.specs.Prelude.{Ok, Err}
 use Rattle.walking.specs.declared.state.Done.{Done}
-use Rattle.walking.specs.Gives.{Completed, as_data, AnswerOf}
+use Rattle.walking.specs.Gives.{Completed, as_data, answer_of}
 use Rattle.walking.proofs.Ends.{placed_of}
 use Rattle.walking.specs.contracts.state.Failure.{the_type as failures}
 use Rattle.running.specs.Reporting.{Counts, ReportsWritten, ReportsEnd}
@@ -123,13 +123,13 @@ rewritten {before} {text} l w = record {
   shown = λ h. w.wrote.shown (omega arith);
 }
 
-stop_of : (x : Res Data) {a : Completed} {code : ℕ} → a ≡ Err (Stop code) → AnswerOf as_data x a → (log : Log) × (x ≡ stop code log)
+stop_of : (x : Res Data) {a : Completed} {code : ℕ} → a ≡ Err (Stop code) → a ≡ answer_of as_data x → (log : Log) × (x ≡ stop code log)
 stop_of (stop n w) e h = (w, ap (λ (c : ℕ). stop c w) (cc))
 stop_of (failed here w c) e h = absurd (let z : ◌≡◌ {A = ℕ} 0 1 = cc in omega arith)
 stop_of (failed past_list w c) e h = absurd (let z : ◌≡◌ {A = ℕ} 0 1 = cc in omega arith)
 stop_of (done v w c) e h = absurd (let z : ◌≡◌ {A = ℕ} 0 1 = cc in omega arith)
 
-failed_of : (x : Res Data) {a : Completed} {f : Failure} → Among (0 ∷ 1 ∷ []) (tag_of failures f) → a ≡ Err f → AnswerOf as_data x a
+failed_of : (x : Res Data) {a : Completed} {f : Failure} → Among (0 ∷ 1 ∷ []) (tag_of failures f) → a ≡ Err f → a ≡ answer_of as_data x
     → (r : Reach) × (log : Log) × (c : Choices) × (x ≡ failed r log c)
 failed_of (stop n w) {f = f} k e h = absurd (not_stop (cc))
   where

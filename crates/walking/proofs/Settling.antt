@@ -19,7 +19,7 @@ use Rattle.walking.specs.declared.state.Failure.{Failure}
 use Rattle.walking.specs.declared.state.Failure.TheVariants.{Here, PastList, Stop}
 use Rattle.std.specs.Prelude.{Ok, Err}
 use Rattle.walking.specs.declared.state.Done.{Done}
-use Rattle.walking.specs.Gives.{as_value, as_entry, Completed, moved_to, AnswerOf, Gives}
+use Rattle.walking.specs.Gives.{as_value, as_entry, Completed, moved_to, answer_of, Gives}
 use Rattle.walking.specs.Settled.{settled, Nullifies, passed_list, lower, lower_what, Settles}
 use Rattle.walking.specs.contracts.state.Failure.{the_type as failures}
 use Rattle.walking.specs.contracts.state.Kind.{the_type as kinds}
@@ -27,7 +27,7 @@ use Rattle.walking.proofs.Ends.{Fall, f_stop, f_failed, fall_of, here_of}
 
 -- ---- try_nullify
 
-settled_placed : (b : Bool) (x : Res Val) {a : Completed} {k : Kind} → a ≡ Ok k → AnswerOf as_value x a → settled b x ≡ x
+settled_placed : (b : Bool) (x : Res Val) {a : Completed} {k : Kind} → a ≡ Ok k → a ≡ answer_of as_value x → settled b x ≡ x
 unfolding caught
 settled_placed true x e h = refl
 settled_placed false (stop s w) e h = refl
@@ -38,7 +38,7 @@ settled_placed false (done v w c) e h = refl
 not_here : {f : Failure} → Among (1 ∷ 2 ∷ []) (tag_of failures f) → f ≡ Here → ⊥
 not_here k e = ⊎_elim (λ h. omega arith) (λ h. omega arith) (opened (rw e at k))
 
-settled_further : (b : Bool) (x : Res Val) {a : Completed} {f : Failure} → a ≡ Err f → AnswerOf as_value x a → Among (1 ∷ 2 ∷ []) (tag_of failures f)
+settled_further : (b : Bool) (x : Res Val) {a : Completed} {f : Failure} → a ≡ Err f → a ≡ answer_of as_value x → Among (1 ∷ 2 ∷ []) (tag_of failures f)
     → settled b x ≡ x
 unfolding caught
 settled_further true x e h k = refl
@@ -110,7 +110,7 @@ module _ {start : ℕ} {d : Done} where
   settle_kept {k} e o = record { level = refl; settles = λ cs text text1 text2 errors errors' label s next x p g. go s x p g e g.what }
     where
       go : {cs text text1 text2 errors errors' label : List ℕ} (s : State) {next : ℕ} (x : Res Val) → Wrote text text1 start next label
-          → Gives as_value cs text1 errors (moved_to s next) x d text2 errors' → {a : Completed} → a ≡ Ok k → AnswerOf as_value x a
+          → Gives as_value cs text1 errors (moved_to s next) x d text2 errors' → {a : Completed} → a ≡ Ok k → a ≡ answer_of as_value x
           → Gives (as_entry label) cs text errors (moved_to s start) x d text2 errors'
       go s (stop n w) p g a h = absurd (let z : ◌≡◌ {A = ℕ} 0 1 = cc in omega arith)
       go s (failed r w c) p g a h = absurd (let z : ◌≡◌ {A = ℕ} 0 1 = cc in omega arith)
@@ -128,7 +128,7 @@ module _ {start : ℕ} {d : Done} where
   }
     where
       go : {cs text text1 text2 errors errors' label : List ℕ} (s : State) {next : ℕ} (x : Res Val) → Wrote text text1 start next label
-          → Gives as_value cs text1 errors (moved_to s next) x d text2 errors' → {a : Completed} → a ≡ Ok kind.LeftOut → AnswerOf as_value x a
+          → Gives as_value cs text1 errors (moved_to s next) x d text2 errors' → {a : Completed} → a ≡ Ok kind.LeftOut → a ≡ answer_of as_value x
           → Gives (as_entry label) cs text errors (moved_to s start) x (record { what = d.what; state = moved_to d.state start }) text2 errors'
       go s (stop n w) p g a h = absurd (let z : ◌≡◌ {A = ℕ} 0 1 = cc in omega arith)
       go s (failed r w c) p g a h = absurd (let z : ◌≡◌ {A = ℕ} 0 1 = cc in omega arith)

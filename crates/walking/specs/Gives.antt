@@ -2,6 +2,8 @@
 -- records noted, the choices left; and nothing else.
 use Rattle.std.specs.Prelude.{◌≡◌, List, [], ◌++◌, ℕ, length, drop}
 use Rattle.writing.specs.Wrote.{Wrote}
+use Rattle.codes.specs.Outcome.{code_of}
+use Rattle.codes.specs.declared.outcome.Outcome.{Outcome}
 use Rattle.graphql.specs.Run.{Reach, here, past_list, Log, Choices, Res, stop, failed, done}
 use Rattle.graphql.specs.Data.{Data, nulled, leaf, list, object, Val, absent, val, print_data}
 use Rattle.graphql.specs.Report.{records_of, words_of}
@@ -56,9 +58,23 @@ reach_of past_list = PastList
 abbrev pub moved_to : State → ℕ → State
 moved_to s at = record { at = at; errs = s.errs; choice = s.choice; top = s.top }
 
+-- the run ended, with the outcome that has this number
+pub record StopsWith (number : ℕ) (w : Completed) : Type 0 where
+  pub outcome : Outcome
+  pub is : w ≡ Err (Stop (code_of outcome))
+  pub numbered : code_of outcome ≡ number
+
 module _ {A : Type 0} where
+  -- how a completion says of a run what it came to; a number is handed on, whichever it is
+  abbrev pub answer_of : View A → Res A → Completed
+  answer_of U (stop code log) = Err (Stop code)
+  answer_of U (failed r log c) = Err (reach_of r)
+  answer_of U (done a log c) = Ok (U.says a)
+
+  -- The same of a run of the definition, which stops with the number of an outcome and no other: `told_answer` (proofs/Told) says it of all that
+  -- `Gives` says.
   abbrev pub AnswerOf : View A → Res A → Completed → Type 0
-  AnswerOf U (stop code log) w = w ≡ Err (Stop code)
+  AnswerOf U (stop code log) w = StopsWith code w
   AnswerOf U (failed r log c) w = w ≡ Err (reach_of r)
   AnswerOf U (done a log c) w = w ≡ Ok (U.says a)
 
@@ -85,7 +101,7 @@ noted log = words_of (records_of log)
 
 -- The call came to x: from the state `s` and these buffers to the end `d` and those.
 pub record Gives {A : Type 0} (U : View A) (cs text errors : List ℕ) (s : State) (x : Res A) (d : Done) (text' errors' : List ℕ) : Type 0 where
-  pub what : AnswerOf U x d.what
+  pub what : d.what ≡ answer_of U x
   pub wrote : TextOf U x text text' s.at d.state.at
   pub noted : Wrote errors errors' s.errs d.state.errs (noted (log_of x))
   pub chosen : drop d.state.choice cs ≡ left_of (drop d.state.choice cs) x
