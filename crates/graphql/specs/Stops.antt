@@ -1,5 +1,5 @@
--- With which codes a run stops on its way: 3, 4 and 5 of document 01, and no others. proofs/Stops proves it of every part of a run. Read it after
--- Complete.
+-- With which codes a run stops on its way: 3, 4 and 5 of document 01, and no others. proofs/Stops proves it of a leaf, a group, a task, a set and a
+-- run. Read it after Complete.
 use Rattle.std.specs.Prelude.{◌≡◌, ℕ}
 use Rattle.codes.specs.declared.outcome.Outcome.{Outcome}
 use Rattle.codes.specs.declared.outcome.Outcome.TheVariants.{TooFar, TooManyFields, VariableInLiteral}

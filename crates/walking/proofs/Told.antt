@@ -4,6 +4,7 @@ use mathlib.Core.Path.{◌≡◌, refl, sym, ap, ◌∙◌}
 use mathlib.Core.Bool.{Bool, true, false}
 use mathlib.Core.List.{List}
 use Prim.Native.Nat.{ℕ}
+use native.Mathlib.Omega.{arith}
 use Rattle.codes.specs.declared.outcome.Outcome.{Outcome}
 use Rattle.codes.specs.Outcome.{code_of}
 use Rattle.graphql.specs.Run.{here, past_list, Choices, Res, stop, failed, done, M, caught, lowered, onward, pure, halt, after}
@@ -42,6 +43,21 @@ pub told_answer : {A : Type 0} {U : View A} {cs text errors text' errors' : List
 told_answer {U = U} {c = c} h g = answer_told U _ (h.told c) g.what
 
 -- ---- What becomes of an answer
+
+same_number : {m n : ℕ} {w : Completed} → w ≡ Err (Stop m) → w ≡ Err (Stop n) → m ≡ n
+same_number e h = cc
+
+stays : {A : Type 0} (U : View A) (x : Res A) {code : ℕ} {w : Completed} → AnswerOf U x w → w ≡ Err (Stop code) → StopsWith code w
+stays U (stop number log) h e = record { outcome = h.outcome; is = h.is; numbered = same_number h.is e }
+stays U (failed here log c) h e = absurd (let z : ◌≡◌ {A = ℕ} 0 1 = cc in omega arith)
+stays U (failed past_list log c) h e = absurd (let z : ◌≡◌ {A = ℕ} 0 1 = cc in omega arith)
+stays U (done a log c) h e = absurd (let z : ◌≡◌ {A = ℕ} 0 1 = cc in omega arith)
+
+-- the same answer, where it is that of another computation too, of which x is a part
+pub kept_answer : {A B : Type 0} (U : View A) (V : View B) (x : Res A) (y : Res B) {w : Completed} → AnswerOf U x w → w ≡ answer_of V y → AnswerOf V y w
+kept_answer U V x (stop code log) h e = stays U x h e
+kept_answer U V x (failed r log c) h e = e
+kept_answer U V x (done a log c) h e = e
 
 -- another view of the same: an entry, once its value has settled
 pub viewed_answer : {A : Type 0} (U V : View A) (x : Res A) (w : Completed) {w' : Completed} → AnswerOf U x w → w' ≡ answer_of V x → AnswerOf V x w'

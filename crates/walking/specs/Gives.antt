@@ -71,8 +71,7 @@ module _ {A : Type 0} where
   answer_of U (failed r log c) = Err (reach_of r)
   answer_of U (done a log c) = Ok (U.says a)
 
-  -- The same of a run of the definition, which stops with the number of an outcome and no other: `told_answer` (proofs/Told) says it of all that
-  -- `Gives` says.
+  -- The same of a run of the definition, which stops with an outcome's number and no other: `told_answer` (proofs/Told) leads to it from `Gives`.
   abbrev pub AnswerOf : View A → Res A → Completed → Type 0
   AnswerOf U (stop code log) w = StopsWith code w
   AnswerOf U (failed r log c) w = w ≡ Err (reach_of r)
