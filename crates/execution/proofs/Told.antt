@@ -16,9 +16,9 @@ use Rattle.walking.proofs.Told.{told_answer}
 use Rattle.resolving.specs.Steps.{doing}
 use Rattle.execution.specs.Walk.{SetDone}
 
-pub set_answer : {Q : Request} {cs text errors plans spans hints : List ℕ} {path : Path} {s : State} {plan object : ℕ} {rows : Range} {d : Done}
+pub set_answered : {Q : Request} {cs text errors plans spans hints : List ℕ} {path : Path} {s : State} {plan object : ℕ} {rows : Range} {d : Done}
     {text' errors' plans' spans' hints' : List ℕ}
     → SetDone Q cs text errors plans spans hints path s plan object rows d text' errors' plans' spans' hints'
     → (set : List ℕ) → PlanOf Q plans s.top plan object set
     → AnswerOf as_data (execute_selection_set Q (doing Q path.count) object rows set (path_of path) (drop s.choice cs)) d.what
-set_answer h set right = told_answer (set_told _ _ _ _ _ _) (h.executes set right)
+set_answered h set right = told_answer (set_told _ _ _ _ _ _) (h.executes set right)

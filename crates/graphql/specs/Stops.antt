@@ -8,7 +8,8 @@ use Rattle.graphql.specs.Run.{Choices, Res, stop, failed, done, M}
 use Rattle.graphql.specs.Request.{Request}
 use Rattle.graphql.specs.Complete.{execute}
 
--- the outcomes with which a run stops
+-- The outcomes with which a run stops: "a path over 32 segments, or 33 open containers in a leaf or literal, 33 open fragments in one collection";
+-- "a 129th field is collected for one set"; "a variable is reached inside a literal that converts part by part".
 abbrev pub StopsRun : Outcome → Type 0
 StopsRun TooFar = Unit {0}
 StopsRun TooManyFields = Unit {0}

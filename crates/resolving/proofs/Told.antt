@@ -34,18 +34,18 @@ completed_told : (Q : Request) (ty : ℕ) (l : Leaf) (g : Group) (p : run.Path) 
 completed_told Q ty l g p = told_when (leb (containers l.json) 32) (leaf_told Q ty l g p) (told_halt TooFar tt)
 
 -- `complete_leaf_value`
-pub leaf_answer : {pool names refs types members fields nodes literals variables : List ℕ} {ty spot last : ℕ} {leaf : code.Leaf} {path : Path}
+pub leaf_answered : {pool names refs types members fields nodes literals variables : List ℕ} {ty spot last : ℕ} {leaf : code.Leaf} {path : Path}
     {text errors text' errors' : List ℕ} {s : State} {d : Done}
     → CompletesAt pool names refs types members fields nodes literals variables ty leaf spot path last text errors s d text' errors'
     → (arguments sets selections given fragments answers : List ℕ) (cs : Choices) (g : Group) (l : Leaf)
     → let Q = asking pool names refs types members fields arguments sets selections given fragments nodes literals variables answers in
     spot ≡ field_place Q g → Valuing Q leaf l.json
     → AnswerOf as_value (leaf_completed Q ty l g (path_of path ++ (segment_of last ∷ [])) (drop s.choice cs)) d.what
-leaf_answer h arguments sets selections given fragments answers cs g l o v =
+leaf_answered h arguments sets selections given fragments answers cs g l o v =
     told_answer (completed_told _ _ l g _) ((h.completes arguments sets selections given fragments answers).comes cs g l o v)
 
 -- `execute_field`, where the field ended
-pub field_answer : {pool names refs types members fields arguments selections given nodes literals variables answers : List ℕ} {path : Path}
+pub field_answered : {pool names refs types members fields arguments selections given nodes literals variables answers : List ℕ} {path : Path}
     {first object : ℕ} {rows : Range} {text errors text' errors' : List ℕ} {s : State} {d : Done}
     → ExecutesField pool names refs types members fields arguments selections given nodes literals variables answers path first object rows text errors s
     (step.Finished d) text' errors'
@@ -54,10 +54,10 @@ pub field_answer : {pool names refs types members fields arguments selections gi
     let g = group_from selections first more in
     AnswerOf (as_entry (keyed_by (name_text pool names g.key)))
     (execute_group Q (doing Q path.count) object rows (path_of path) g (definition_of Q object (field_name Q g)) (drop s.choice cs)) d.what
-field_answer h sets fragments cs more = told_answer (group_told _ _ _ _ _ _ _) (h.steps sets fragments cs more).0
+field_answered h sets fragments cs more = told_answer (group_told _ _ _ _ _ _ _) (h.steps sets fragments cs more).0
 
 -- `complete_item`, where the item ended
-pub item_answer : {pool names refs types members fields arguments given nodes literals variables answers : List ℕ} {path : Path} {at : ℕ}
+pub item_answered : {pool names refs types members fields arguments given nodes literals variables answers : List ℕ} {path : Path} {at : ℕ}
     {asked : Asked} {inner row : ℕ} {text errors text' errors' : List ℕ} {s : State} {d : Done}
     → CompletesItem pool names refs types members fields arguments given nodes literals variables answers path at asked inner row text errors s
     (step.Finished d) text' errors'
@@ -65,4 +65,4 @@ pub item_answer : {pool names refs types members fields arguments given nodes li
     → let Q = asking pool names refs types members fields arguments sets selections given fragments nodes literals variables answers in
     Asks Q asked g args
     → AnswerOf (as_entry comma) (doing Q path.count (an_item inner row g args) (path_of path ++ (run.index at ∷ [])) (drop s.choice cs)) d.what
-item_answer h sets selections fragments cs g args a = told_answer (task_told _ _ _ _) (h.steps sets selections fragments cs g args a).0
+item_answered h sets selections fragments cs g args a = told_answer (task_told _ _ _ _) (h.steps sets selections fragments cs g args a).0

@@ -21,16 +21,16 @@ stops_by : {number : ℕ} {w w' : Completed} → StopsWith number w → w' ≡ E
 stops_by h e = record { outcome = h.outcome; is = e ∙ ap (λ (n : ℕ). Err (Stop n)) (sym h.numbered); numbered = h.numbered }
 
 module _ {A : Type 0} (U : View A) where
-  -- the answer is the one that the number makes
+  -- to the answer that takes any number, and back where the number is an outcome's
   pub answer_by : (x : Res A) {w : Completed} → AnswerOf U x w → w ≡ answer_of U x
   answer_by (stop code log) h = h.is ∙ ap (λ (n : ℕ). Err (Stop n)) h.numbered
   answer_by (failed r log c) h = h
   answer_by (done a log c) h = h
 
-  pub answer_told : (x : Res A) {w : Completed} → StopTold x → w ≡ answer_of U x → AnswerOf U x w
-  answer_told (stop code log) t e = record { outcome = t.outcome; is = e ∙ ap (λ (n : ℕ). Err (Stop n)) (sym t.numbered); numbered = t.numbered }
-  answer_told (failed r log c) t e = e
-  answer_told (done a log c) t e = e
+  by_number : (x : Res A) {w : Completed} → StopTold x → w ≡ answer_of U x → AnswerOf U x w
+  by_number (stop code log) t e = record { outcome = t.outcome; is = e ∙ ap (λ (n : ℕ). Err (Stop n)) (sym t.numbered); numbered = t.numbered }
+  by_number (failed r log c) t e = e
+  by_number (done a log c) t e = e
 
 -- the definition's `halt`, with an outcome's number
 pub stopped_answer : {A : Type 0} (U : View A) (o : Outcome) (c : Choices) → AnswerOf U (halt (code_of o) c) (Err (Stop (code_of o)))
@@ -40,7 +40,7 @@ stopped_answer U o c = record { outcome = o; is = refl; numbered = refl }
 -- What a function of the walk ensures of a part of the definition: it answered with its outcome.
 pub told_answer : {A : Type 0} {U : View A} {cs text errors text' errors' : List ℕ} {s : State} {m : M A} {c : Choices} {d : Done}
     → Told m → Gives U cs text errors s (m c) d text' errors' → AnswerOf U (m c) d.what
-told_answer {U = U} {c = c} h g = answer_told U _ (h.told c) g.what
+told_answer {U = U} {c = c} h g = by_number U _ (h.told c) g.what
 
 -- ---- What becomes of an answer
 
